@@ -1,0 +1,6 @@
+pub mod Base
+pub mod Class
+pub mod Total
+pub mod Worked
+pub mod Claims
+pub mod Tables

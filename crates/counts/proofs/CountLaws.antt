@@ -1,0 +1,155 @@
+-- What the code computes, as laws on plain numbers: leading zeros give the first guess of a class and the shift of a total, and shifts and
+-- masks the fields of a code.
+-- Assumes nothing.
+use mathlib.Core.Path.{_≡_, refl, sym, ap, _∙_}
+use mathlib.Core.Bool.{Bool, true, false, cond}
+use Prim.Native.Nat.{ℕ, suc, _+_, _-_, _*_, _/_, _%_, _^_, _≤_, _<_}
+use native.Mathlib.Nat.{mod-eq-of-lt, mul-le-mul, pow-succ'}
+use native.Mathlib.Omega.{arith}
+use borrow.Author.Tests.{leb-true, le-leb}
+use lib.Dec.{leb}
+use lib.Bits.{bitOr, or-shifted}
+use lib.Count.{leadingZeros, leading-top}
+use lib.Pow.{pow-add, pow-mono}
+use Rattle.laws.proofs.Tests.{true-not-false, both, both-left, both-right}
+use Rattle.coding.specs.Base.{base, limit, countable, usedClass}
+use Rattle.coding.specs.Class.{classOf, classStart, classNumber}
+use Rattle.coding.specs.Total.{shift, bits, totalCode, middle, totalNumber, codeBits, codeShift, validFields, validCode}
+use Rattle.coding.proofs.ClassLaws.{Reached, class-eq, start-is, reached-up}
+use Rattle.coding.proofs.BaseLaws.{used-says, reached-by-two, reached-small}
+use Rattle.coding.proofs.TotalLaws.{Valid, shift-eq, shift-small, bits-small, valid-says, says-valid, number-small}
+use Rattle.tables.specs.Entries.{startOf, numberOf, middleOf}
+use Rattle.counts.specs.Reply.{answered, refused}
+
+-- ---- a test decides between the answer and the refusal
+
+pub replied : (t : Bool) (w v n : ℕ) → t ≡ true → w ≡ v → answered w ≡ cond t (answered v) (refused n)
+replied true w v n e q = ap answered q
+replied false w v n e q = absurd (true-not-false e refl)
+
+pub turned-away : (t : Bool) (v n : ℕ) → t ≡ false → refused n ≡ cond t (answered v) (refused n)
+turned-away true v n e = absurd (true-not-false refl e)
+turned-away false v n e = refl
+
+-- a test that cannot hold fails
+fails : (t : Bool) → (t ≡ true → ⊥) → t ≡ false
+fails true h = absurd (h refl)
+fails false h = refl
+
+pub in-range : (v : ℕ) → 1 ≤ v → v ≤ limit → countable v ≡ true
+in-range v h l = both (leb 1 v) (leb v limit) (le-leb 1 v h) (le-leb v limit l)
+
+pub out-of-range : (v : ℕ) → (1 ≤ v → v ≤ limit → ⊥) → countable v ≡ false
+out-of-range v h =
+    fails (countable v) (λ t. h (leb-true 1 v (both-left (leb 1 v) _ t)) (leb-true v limit (both-right (leb 1 v) _ t)))
+
+pub not-used : (c : ℕ) → (1 ≤ c → c < 63 → (c ≡ 2 → ⊥) → ⊥) → usedClass c ≡ false
+not-used c h = fails (usedClass c) (λ t. let u = used-says c t in h (u .0) (u .1) (u .2))
+
+-- ---- the place of the highest set bit
+
+pub record Top (x k : ℕ) : Type 0 where
+  pub from : 2 ^ k ≤ x
+  pub to : x < 2 ^ suc k
+
+pub zeros-top : (x : ℕ) → 1 ≤ x → x < 2 ^ 32 → (leadingZeros 32 x ≤ 31) × Top x (31 - leadingZeros 32 x)
+zeros-top x p h =
+    let t = leading-top 32 x p h in
+    let e : 31 - leadingZeros 32 x ≡ t .0 = omega (arith, t .1) in
+    (omega (arith, t .1), record { from = rw e (t .2); to = rw e (t .3) })
+
+top-least : (x k n : ℕ) → Top x k → 2 ^ n ≤ x → n ≤ k
+top-least x k n t h = let a : k < n → ⊥ = λ l. omega (arith, t .to, pow-mono {i = suc k} {j = n} l) in omega arith
+
+-- ---- the class
+
+-- where the search may start: at the class after a power that the highest bit reaches, far enough from the end
+pub guess : (v c : ℕ) → 1 ≤ v → v ≤ limit → c ≡ 2 * (31 - leadingZeros 32 v) + 1 → (1 ≤ c) × (c ≤ 62) × Reached base (c - 1) v
+guess v c h l e =
+    let t = zeros-top v h (omega arith) .1 in
+    let k = 31 - leadingZeros 32 v in
+    let far : 30 ≤ k → ⊥ = λ g. omega (arith, t .from, pow-mono {i = 30} {j = k} g) in
+    let f : c - 1 ≡ 2 * k = omega arith in
+    (omega arith, omega arith, rw f (reached-by-two k v (t .from)))
+
+start-in : (c : ℕ) → 1 ≤ c → c ≤ 63 → startOf c ≡ classStart base c
+unfolding startOf
+start-in c h l = simp (le-leb 1 c h, le-leb c 63 l)
+
+-- the next class begins at v or before: v reaches it, and there is one more class after it
+pub next-reached : (v c : ℕ) → 1 ≤ c → c ≤ 62 → v ≤ limit → startOf (c + 1) ≤ v → (c + 1 ≤ 62) × Reached base (c + 1 - 1) v
+next-reached v c h l g s =
+    let e = start-in (c + 1) (omega arith) (omega arith) in
+    let r = reached-up base (omega arith) (omega arith) (c + 1 - 1) _ v (rw e at s) (start-is base (omega arith) (omega arith) (c + 1) .reached) in
+    (omega (arith, reached-small (c + 1 - 1) v g r), r)
+
+-- it begins after v: the class is found
+pub last-reached : (v c : ℕ) → 1 ≤ c → c ≤ 62 → Reached base (c - 1) v → v < startOf (c + 1) → c ≡ classOf base v
+last-reached v c h l r s =
+    let e = start-in (c + 1) (omega arith) (omega arith) in
+    let k : c + 1 - 1 ≡ c = omega arith in
+    sym (class-eq base (omega arith) (omega arith) v c
+    (record { least = h; reached = r; not-next = rw k at (start-is base (omega arith) (omega arith) (c + 1) .before v (rw e at s)) }))
+
+pub number-in : (c : ℕ) → usedClass c ≡ true → numberOf c ≡ classNumber base c
+unfolding numberOf
+number-in c t = simp t
+
+pub middle-in : (s : ℕ) → s ≤ 23 → middleOf s ≡ middle s
+unfolding middleOf
+middle-in s h = simp (le-leb s 23 h)
+
+-- ---- the total code
+
+pub shift-none : (t : ℕ) → t < 128 → 0 ≡ shift t
+shift-none t h = sym (shift-eq t 0 (record { below = omega arith; above = λ g. absurd (omega arith) }))
+
+pub shift-by-zeros : (t : ℕ) → 128 ≤ t → t < 2 ^ 32 → (leadingZeros 32 t ≤ 25) × (25 - leadingZeros 32 t ≡ shift t)
+shift-by-zeros t h l =
+    let z = zeros-top t (omega arith) l in
+    let k = 31 - leadingZeros 32 t in
+    let s = 25 - leadingZeros 32 t in
+    let far = top-least t k 7 (z .1) h in
+    let e : 2 ^ k ≡ 64 * 2 ^ s = ap (λ (n : ℕ). 2 ^ n) {x = k} {y = 6 + s} (omega arith) ∙ pow-add 2 6 s in
+    (omega arith, sym (shift-eq t s (record { below = omega (arith, z .1 .to, pow-succ' 2 k); above = λ _. omega (arith, z .1 .from) })))
+
+-- the bits, five places up, and the shift below them
+pub code-packed : (t s x : ℕ) → t ≤ limit → s ≡ shift t → x ≡ bits t * 32 → bitOr x s ≡ totalCode t
+unfolding totalCode
+code-packed t s x l e f =
+    let small = shift-small t l in
+    rw (f, e) (or-shifted (bits t) 5 (shift t) (omega arith))
+
+-- the bits as they are shifted out
+pub bits-shifted : (t s : ℕ) → s ≡ shift t → (t / 2 ^ s ≡ bits t) × (t / 2 ^ s < 128)
+unfolding bits
+bits-shifted t s e = rw e (refl, bits-small t)
+
+-- ---- the number of a total code
+
+-- a test is that of validity if it holds exactly then
+pub valid-by : (t : Bool) (b s : ℕ) → (t ≡ true → Valid b s) → (Valid b s → t ≡ true) → t ≡ validFields b s
+valid-by true b s h g = sym (says-valid b s (h refl))
+valid-by false b s h g = sym (fails (validFields b s) (λ e. true-not-false (g (valid-says b s e)) refl))
+
+pub never-valid : (b s : ℕ) → (Valid b s → ⊥) → false ≡ validFields b s
+never-valid b s h = valid-by false b s (λ e. absurd (true-not-false e refl)) (λ v. absurd (h v))
+
+-- what the test of the two fields said of the code
+pub validity : (c b s : ℕ) (t u : Bool) → b ≡ codeBits c → s ≡ codeShift c → t ≡ validFields b s → t ≡ u → validCode c ≡ u
+validity c b s t u g h e f = rw (← g, ← h) (sym e ∙ f)
+
+-- the number as it is added up, with the shift and the middle that the code has in hand
+pub record Packed (c n : ℕ) : Type 0 where
+  pub value : n ≡ totalNumber c
+  pub small : n < 2 ^ 32
+
+pub number-packed : (c b s m : ℕ) → m ≡ middleOf s → b ≡ codeBits c → s ≡ codeShift c → validCode c ≡ true → Packed c (b * 2 ^ s % 2 ^ 32 + m)
+unfolding totalNumber
+number-packed c b s m f h e t =
+    let v = valid-says (codeBits c) (codeShift c) t in
+    let g : m ≡ middle (codeShift c) = f ∙ ap middleOf e ∙ middle-in (codeShift c) (v .shift-top) in
+    let p = mul-le-mul (v .bits-top) (pow-mono {i = codeShift c} {j = 23} (v .shift-top)) in
+    let w : c / 32 * 2 ^ codeShift c % 2 ^ 32 ≡ c / 32 * 2 ^ codeShift c = mod-eq-of-lt (omega arith) in
+    let n : b * 2 ^ s % 2 ^ 32 + m ≡ totalNumber c = rw (h, e, w, g) in
+    record { value = n; small = omega (arith, n, number-small c t) }

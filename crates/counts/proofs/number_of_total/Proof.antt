@@ -1,0 +1,54 @@
+-- `counts::number_of_total` meets its contract. The fields are taken out by a shift and a mask, and their number is added up.
+-- Assumes nothing.
+use mathlib.Core.Path.{_≡_}
+use mathlib.Core.Bool.{Bool, true, false}
+use Prim.Native.Nat.{_/_}
+use native.Mathlib.Omega.{arith}
+use borrow.Author.Needs.{needs}
+use borrow.Author.Tests.{not-true, not-false}
+use lib.Bits.{and-mask}
+use Rattle.coding.specs.Total.{validCode, totalNumber}
+use Rattle.counts.specs.Reply.{totalMeaning}
+use Rattle.counts.proofs.CountLaws.{replied, turned-away, validity, number-packed}
+use Rattle.counts.proofs.number_of_total.Statement.{statement}
+use Rattle.counts.proofs.number_of_total.Tie as tie
+
+is-valid-requires : tie.Need-is-valid-requires
+is-valid-requires c κs = search needs
+
+-- what the test of the fields says
+tested : (c : tie.After-is-valid) (u : Bool) → c .is-valid .result ≡ u → validCode (c .before .args .code) ≡ u
+tested c u e =
+    let n = c .before .args .code in
+    validity n _ _ _ u (omega arith) (omega (arith, and-mask n 5)) (c .is-valid .ensures) e
+
+returns : tie.Need-returns
+unfolding totalMeaning
+returns c =
+    let n = c .before .before .args .code in
+    turned-away (validCode n) (totalNumber n) 17 (tested (c .before) false (not-true _ (c .if1 .taken)))
+
+shl-t6 : tie.Need-shl-t6
+shl-t6 c = omega (arith, and-mask (c .before .before .args .code) 5)
+
+shift-middle-requires : tie.Need-shift-middle-requires
+shift-middle-requires c κs = search needs
+
+valid : (c : tie.After-shift-middle) → validCode (c .before .before .before .args .code) ≡ true
+valid c = tested (c .before .before) true (not-false _ (c .before .if1 .left))
+
+add-t8 : tie.Need-add-t8
+add-t8 c =
+    let n = c .before .before .before .args .code in
+    record { fits = number-packed n (n / 32) _ _ (c .shift-middle .ensures) (omega arith) (omega (arith, and-mask n 5)) (valid c) .small }
+
+returns-2 : tie.Need-returns-2
+unfolding totalMeaning
+returns-2 c =
+    let n = c .before .before .before .args .code in
+    replied (validCode n) _ (totalNumber n) 17 (valid c)
+    (number-packed n (n / 32) _ _ (c .shift-middle .ensures) (omega arith) (omega (arith, and-mask n 5)) (valid c) .value)
+
+pub number-of-total-spec : {M : Type 1} → statement M
+number-of-total-spec =
+    tie.close (tie.spec is-valid-requires returns shl-t6 shift-middle-requires add-t8 returns-2)

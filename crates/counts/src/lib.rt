@@ -1,0 +1,117 @@
+// The coding of counts: the class and the total code of a count, and the numbers that they stand for.
+
+ghost use mathlib.Core.Path.{_≡_};
+ghost use Prim.Native.Nat.{_≤_, _<_};
+ghost use Rattle.coding.specs.Base.{base, limit};
+ghost use Rattle.coding.specs.Class.{classOf};
+ghost use Rattle.coding.specs.Total.{shift, validFields};
+ghost use Rattle.counts.specs.Reply.{codedReply, meaningReply};
+ghost use Rattle.counts.specs.Reply.{classReply, classMeaning, totalReply, totalMeaning};
+
+// The largest count that is coded.
+const LIMIT: u32 = 1073741823;
+
+// What a count is coded as.
+pub enum Coded {
+    Code(u32),
+    Refused,
+}
+
+// What a class or a total code stands for.
+pub enum Meaning {
+    Number(u32),
+    Refused,
+}
+
+// The class of a count. Two classes make less than one power of two, so the search starts at most three classes below.
+fn class_search(count: u32) -> u32
+    requires { ⌜ (1 ≤ count) × (count ≤ limit) ⌝ }
+    ensures { λ r. ⌜ r ≡ classOf base count ⌝ }
+{
+    let mut class = 2 * (31 - u32::leading_zeros(count)) + 1;
+    while tables::class_start(class + 1) <= count {
+        class += 1;
+    }
+    class
+}
+
+// The class of a count, or 16.
+pub fn class_of(count: u32) -> Coded
+    ensures { λ r. ⌜ codedReply r ≡ classReply count ⌝ }
+{
+    if count == 0 {
+        return Coded::Refused;
+    }
+    if LIMIT < count {
+        return Coded::Refused;
+    }
+    Coded::Code(class_search(count))
+}
+
+// The number that a class stands for, or 17.
+pub fn number_of_class(class: u32) -> Meaning
+    ensures { λ r. ⌜ meaningReply r ≡ classMeaning class ⌝ }
+{
+    if class == 0 {
+        return Meaning::Refused;
+    }
+    if class == 2 {
+        return Meaning::Refused;
+    }
+    if 63 <= class {
+        return Meaning::Refused;
+    }
+    Meaning::Number(tables::class_number(class))
+}
+
+// The place of a total's highest set bit less 6, or 0 below 128.
+fn shift_of(total: u32) -> u32
+    ensures { λ r. ⌜ r ≡ shift total ⌝ }
+{
+    if total < 128 {
+        return 0;
+    }
+    25 - u32::leading_zeros(total)
+}
+
+// The code of a total, or 16: its highest seven bits above the shift that they had.
+pub fn code_of_total(total: u32) -> Coded
+    ensures { λ r. ⌜ codedReply r ≡ totalReply total ⌝ }
+{
+    if total == 0 {
+        return Coded::Refused;
+    }
+    if LIMIT < total {
+        return Coded::Refused;
+    }
+    let shift = shift_of(total);
+    Coded::Code(((total >> shift) << 5) | shift)
+}
+
+// Whether the two fields are those of a valid total code.
+fn is_valid(bits: u32, shift: u32) -> bool
+    ensures { λ r. ⌜ r ≡ validFields bits shift ⌝ }
+{
+    if 127 < bits {
+        return false;
+    }
+    if 23 < shift {
+        return false;
+    }
+    if shift == 0 {
+        return 1 <= bits;
+    }
+    64 <= bits
+}
+
+// The number that a total code stands for, or 17.
+pub fn number_of_total(code: u32) -> Meaning
+    ensures { λ r. ⌜ meaningReply r ≡ totalMeaning code ⌝ }
+{
+    let bits = code >> 5;
+    let shift = code & 31;
+    if !is_valid(bits, shift) {
+        return Meaning::Refused;
+    }
+    Meaning::Number((bits << shift) + tables::shift_middle(shift))
+}

@@ -1,0 +1,3 @@
+pub mod Tests
+pub mod SearchLaws
+pub mod Table

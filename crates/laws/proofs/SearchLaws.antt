@@ -1,0 +1,94 @@
+-- Laws of the searches (specs/Search.antt): what `first` finds, that it is the only such number, and the same of `largest` and `root`.
+-- Assumes nothing.
+use mathlib.Core.Path.{_≡_, refl, sym, ap, _∙_}
+use mathlib.Core.Bool.{Bool, true, false, not}
+use mathlib.Core.Logic.{⊎-elim}
+use Prim.Native.Nat.{ℕ, zero, suc, _+_, _*_, _≤_, _<_}
+use native.Mathlib.Nat.{eq-or-lt-of-le, le-antisymm, mul-le-mul, mul-le-mul-right, le-of-mul-le-mul-right}
+use native.Mathlib.Omega.{arith}
+use borrow.Author.Tests.{leb-true, leb-false, not-true, not-false}
+use lib.Dec.{leb}
+use Rattle.laws.specs.Search.{orAfter, first, largest, Root, root}
+use Rattle.laws.proofs.Tests.{true-not-false, not-holds}
+
+-- r is what a search of the k numbers from n on finds
+pub record Found (p : ℕ → Bool) (k n r : ℕ) : Type 0 where
+  pub from : n ≤ r
+  pub within : r ≤ n + k
+  pub before : (m : ℕ) → n ≤ m → m < r → p m ≡ false
+  pub passes : r < n + k → p r ≡ true
+
+pub first-is : (p : ℕ → Bool) (k n : ℕ) → Found p k n (first p k n)
+unfolding first
+first-is p zero n = record { from = omega arith; within = omega arith; before = λ m g h. absurd (omega arith); passes = λ h. absurd (omega arith) }
+first-is p (suc k) n = go (p n) refl (first-is p k (suc n))
+  where
+    go : (t : Bool) → p n ≡ t → Found p k (suc n) (first p k (suc n)) → Found p (suc k) n (orAfter t n (first p k))
+    go true e f = record { from = omega arith; within = omega arith; before = λ m g h. absurd (omega arith); passes = λ h. e }
+    go false e f =
+        record {
+          from = omega (arith, f .from);
+          within = omega (arith, f .within);
+          before = λ m g h. ⊎-elim (λ (q : n ≡ m). ap p (sym q) ∙ e) (λ (q : n < m). f .before m q h) (eq-or-lt-of-le g);
+          passes = λ h. f .passes (omega arith);
+        }
+
+-- a number that passes, with none before it that does, is the one found
+pub first-eq : (p : ℕ → Bool) (k n r : ℕ) → n ≤ r → r < n + k → ((m : ℕ) → n ≤ m → m < r → p m ≡ false) → p r ≡ true → first p k n ≡ r
+first-eq p k n r g h b t =
+    let f = first-is p k n in
+    let over : r < first p k n → ⊥ = λ l. true-not-false t (f .before r g l) in
+    let under : first p k n < r → ⊥ = λ l. true-not-false (f .passes (omega arith)) (b (first p k n) (f .from) l) in
+    omega arith
+
+-- l is the largest number up to k such that each from 1 to it passes
+pub record Largest (p : ℕ → Bool) (k l : ℕ) : Type 0 where
+  pub within : l ≤ k
+  pub passing : (m : ℕ) → m < l → p (suc m) ≡ true
+  pub next : l < k → p (suc l) ≡ false
+
+pub largest-is : (p : ℕ → Bool) (k : ℕ) → Largest p k (largest p k)
+unfolding largest
+largest-is p k =
+    let f = first-is (λ n. not (p (suc n))) k 0 in
+    record {
+      within = omega (arith, f .within);
+      passing = λ m h. not-false _ (f .before m (omega arith) h);
+      next = λ h. not-true _ (f .passes (omega arith));
+    }
+
+pub largest-eq : (p : ℕ → Bool) (k l : ℕ) → l < k → ((m : ℕ) → m < l → p (suc m) ≡ true) → p (suc l) ≡ false → largest p k ≡ l
+unfolding largest
+largest-eq p k l h b t =
+    first-eq (λ n. not (p (suc n))) k 0 l (omega arith) (omega arith) (λ m _ g. ap not (b m g)) (not-holds _ t)
+
+module _ (x y : ℕ) (pos : 0 < y) where
+  -- a root whose next square is too large is the root
+  pub root-of : (r : ℕ) → r * r * y ≤ x → x < suc r * suc r * y → Root x y r
+  root-of r h g =
+      record {
+        within = h;
+        most = λ s k. let a : r < s → ⊥ = λ l. let b = mul-le-mul-right y (mul-le-mul l l) in omega arith in omega arith;
+      }
+
+  pub root-unique : (r s : ℕ) → Root x y r → Root x y s → r ≡ s
+  root-unique r s a b = le-antisymm (b .most r (a .within)) (a .most s (b .within))
+
+  pub root-is : Root x y (root x y)
+  unfolding root
+  root-is =
+      let l = largest-is (λ r. leb (r * r * y) x) x in
+      record { within = within (root x y) (l .passing); most = λ s k. let a : root x y < s → ⊥ = λ g. past (root x y) s k g (l .within) (l .next) in omega arith }
+    where
+      within : (r : ℕ) → ((m : ℕ) → m < r → leb (suc m * suc m * y) x ≡ true) → r * r * y ≤ x
+      within zero h = omega arith
+      within (suc m) h = leb-true _ _ (h m (omega arith))
+
+      past : (r s : ℕ) → s * s * y ≤ x → r < s → r ≤ x → (r < x → leb (suc r * suc r * y) x ≡ false) → ⊥
+      past r s k g w h = ⊎-elim (λ (e : r ≡ x). omega (arith, mul-le-mul-right y (mul-le-mul g g), mul-le-mul-right (suc r * suc r) pos)) (λ (l : r < x). omega (arith, leb-false (suc r * suc r * y) x (h l), mul-le-mul-right y (mul-le-mul g g))) (eq-or-lt-of-le w)
+
+-- the root of a larger fraction is no smaller
+pub root-mono : (x y u v : ℕ) → 0 < y → 0 < v → x * v ≤ u * y → root x y ≤ root u v
+root-mono x y u v a b h =
+    let r = root x y in
+    root-is u v b .most r (le-of-mul-le-mul-right {m = r * r * v} {k = y} (omega (arith, mul-le-mul-right v (root-is x y a .within))) a)

@@ -1,0 +1,1 @@
+// Definitions and laws that several crates share. There is no code.

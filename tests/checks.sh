@@ -1,0 +1,226 @@
+# shellcheck shell=bash
+# What rt does not look at by itself. Each check takes the repository's root, and those of a run also the saved output
+# of `rt ci`. It prints a line `FAIL: ..` for each fault and fails if there was one.
+
+# The checks of the tree, and those of what `rt ci` left, in the order in which tests/run asks them.
+# shellcheck disable=SC2034
+tree_checks=(
+    crates_are_listed
+    sources_are_in_crates
+    edits_are_tried
+    libraries_call_no_c
+    crates_have_one_root
+)
+# shellcheck disable=SC2034
+run_checks=(
+    edits_were_refused
+    edits_break_facts
+    verdicts_are_of_this_run
+    crates_are_proved
+    only_libc_is_assumed
+)
+
+# What the prover says where a proof no longer fits the text: such a refusal shows nothing about the meaning.
+form_phrases=(
+    'that can be named from here'
+    'is not in scope'
+    'no occurrence of'
+    'needs a function type'
+    'needs a function (or path) type'
+    'has no field'
+)
+
+# Prints a fault and counts it in the variable `faults` of the check that calls this.
+fault() {
+    printf 'FAIL: %s\n' "$*"
+    faults=$((faults + 1))
+}
+
+# Answers whether LIST, one entry to a line, holds ENTRY, letter by letter: a path is no regular expression.
+has_entry() { # LIST ENTRY
+    [[ $'\n'$1$'\n' == *$'\n'"$2"$'\n'* ]]
+}
+
+# Prints `NAME DEP DEP ..` for each crate that crates.txt lists, read as rt reads it.
+crate_lines() { # ROOT
+    awk '{ sub(/#.*/, "") } /:/ { sub(/:/, " "); $1 = $1; print }' "$1/crates.txt"
+}
+
+# Prints the name of each crate that crates.txt lists.
+crate_names() { # ROOT
+    crate_lines "$1" | cut -d ' ' -f 1
+}
+
+# Prints each path of the tree that meets find's expression; target/ and .git/ are not the tree's.
+tree_paths() { # ROOT EXPRESSION..
+    (cd "$1" && find . \( -path ./target -o -path ./.git \) -prune -o \( "${@:2}" \) -print) | sed 's|^\./||' | sort
+}
+
+# Prints CRATE/LABEL for each must-fail edit, the name by which rt calls it.
+edit_labels() { # ROOT
+    tree_paths "$1" -path './crates/*/must-fail/*.edit' | sed 's|^crates/\(.*\)/must-fail/\(.*\)\.edit$|\1/\2|'
+}
+
+# A folder that is not listed is never proved, and rt says nothing of one that holds no source.
+crates_are_listed() { # ROOT
+    local faults=0 names name
+    names=$(crate_names "$1")
+    [ -n "$names" ] || fault "crates.txt lists no crate"
+    for name in $names; do
+        [ -d "$1/crates/$name" ] || fault "crates.txt lists $name, and there is no folder crates/$name"
+    done
+    while IFS= read -r name; do
+        has_entry "$names" "${name#crates/}" || fault "$name is not listed in crates.txt"
+    done < <(tree_paths "$1" -path './crates/*' ! -path './crates/*/*' ! -type f)
+    [ "$faults" -eq 0 ]
+}
+
+# A source elsewhere reads as if it were proved, and nothing proves it.
+sources_are_in_crates() { # ROOT
+    local faults=0 names path
+    local place='^crates/([^/]+)/(src/.+\.rt|specs/.+\.antt|proofs/.+\.antt)$'
+    names=$(crate_names "$1")
+    while IFS= read -r path; do
+        if ! [[ $path =~ $place ]] || ! has_entry "$names" "${BASH_REMATCH[1]}"; then
+            fault "$path is not in src/ (.rt), specs/ or proofs/ (.antt) of a listed crate"
+        fi
+    done < <(tree_paths "$1" ! -type d \( -name '*.rt' -o -name '*.antt' \))
+    [ "$faults" -eq 0 ]
+}
+
+# An edit elsewhere, or under another name, is never tried: it would promise what nothing shows.
+edits_are_tried() { # ROOT
+    local faults=0 names path
+    local place='^crates/([^/]+)/must-fail/[^/.][^/]*\.edit$'
+    names=$(crate_names "$1")
+    while IFS= read -r path; do
+        if ! [[ $path =~ $place ]] || ! has_entry "$names" "${BASH_REMATCH[1]}"; then
+            fault "$path is not in must-fail/ of a listed crate, so it is never tried"
+        fi
+    done < <(tree_paths "$1" ! -type d -name '*.edit')
+    while IFS= read -r path; do
+        fault "$path is in a must-fail folder and is no .edit file"
+    done < <(tree_paths "$1" -path '*/must-fail/*' ! \( -type f -name '*.edit' \))
+    [ "$faults" -eq 0 ]
+}
+
+# The contracts of C functions are assumed, and the check of a library does not count them: only programs may reach them.
+libraries_call_no_c() { # ROOT
+    local faults=0 name deps dep
+    while read -r name deps; do
+        [ -f "$1/crates/$name/src/lib.rt" ] || continue
+        for dep in $deps; do
+            case $dep in libc | io | os) fault "the library $name depends on $dep" ;; esac
+        done
+    done < <(crate_lines "$1")
+    [ "$faults" -eq 0 ]
+}
+
+# With both roots rt takes main.rt and never proves what only lib.rt names.
+crates_have_one_root() { # ROOT
+    local faults=0 name file count
+    for name in $(crate_names "$1"); do
+        count=0
+        for file in "$1/crates/$name/src/"{lib,main}.rt; do
+            [ ! -f "$file" ] || count=$((count + 1))
+        done
+        [ "$count" -eq 1 ] || fault "$name has $count of src/lib.rt and src/main.rt, not one"
+    done
+    [ "$faults" -eq 0 ]
+}
+
+# rt's count of refused edits does not say which: each edit of the tree must be one of them, with the prover's words kept.
+edits_were_refused() { # ROOT OUTPUT
+    local faults=0 refused edit
+    refused=$(sed -n 's/^rt: must-fail \(.*\): refused, as it must be (.*$/\1/p' "$2")
+    while IFS= read -r edit; do
+        if ! has_entry "$refused" "$edit"; then
+            fault "must-fail $edit was not refused"
+        elif [ ! -s "$1/target/must-fail/$edit/.log" ]; then
+            fault "must-fail $edit has left no log"
+        fi
+    done < <(edit_labels "$1")
+    [ "$faults" -eq 0 ]
+}
+
+# rt prints the same for an edit that breaks a fact and one that only breaks the form; the prover's words tell them apart.
+edits_break_facts() { # ROOT OUTPUT
+    local faults=0 edit log text phrase
+    while IFS= read -r edit; do
+        log=$1/target/must-fail/$edit/.log
+        [ -f "$log" ] || continue # edits_were_refused names it
+        text=$(tr -s '[:space:]' ' ' <"$log") # the prover breaks its lines anywhere
+        for phrase in "${form_phrases[@]}"; do
+            [[ $text != *"$phrase"* ]] || fault "must-fail $edit breaks only the form of a proof: its log says '$phrase'"
+        done
+    done < <(edit_labels "$1")
+    [ "$faults" -eq 0 ]
+}
+
+# `rt ci` starts from nothing; a word of an earlier run anywhere in what it said means that it did not.
+verdicts_are_of_this_run() { # ROOT OUTPUT
+    local faults=0 line
+    local words=(-e cache=trusted -e incremental=trusted -e 'unchanged since it was last proved')
+    while IFS= read -r line; do
+        fault "a verdict of an earlier run: $line"
+    done < <(grep -aHnF "${words[@]}" "$2" "$1"/target/log/*.out)
+    [ "$faults" -eq 0 ]
+}
+
+# Each listed crate has one verdict, in words that leave nothing open. Of the two `trusted` words one is for the kit's
+# logic and the other for the libraries, which are the kit's or were proved before in the same run.
+crates_are_proved() { # ROOT OUTPUT
+    local faults=0 proved name verdict word
+    proved=$(sed -n 's/^rt: \([^ ]*\) proved ([0-9]* s)$/\1/p' "$2")
+    for name in $(crate_names "$1"); do
+        verdict=$(grep -as '^logic=' "$1/target/log/$name.out")
+        if ! has_entry "$proved" "$name"; then
+            fault "$name was not proved in this run"
+            continue
+        elif [[ $verdict != 'logic=proved '* || $verdict == *$'\n'* ]]; then
+            fault "$name has no verdict, or not a single one, that it is proved"
+            continue
+        fi
+        for word in $verdict; do
+            case $word in
+            logic=proved | functions=* | axioms=* | target=* | sum=* | native=nat,char,string) ;;
+            logic-built=trusted | libraries-built=trusted) ;;
+            *) fault "$name has the word $word in its verdict" ;;
+            esac
+        done
+    done
+    [ "$faults" -eq 0 ]
+}
+
+# Prints what one crate assumes beyond what its kind may, by the lines `axioms CRATE: ..` and the verdict of its check.
+assumed_too_much() { # LOG KIND
+    awk -v kind="$2" '
+        /^axioms / {
+            crate = $2
+            sub(/:$/, "", crate)
+            if (kind == "library" || crate != "libc") print "assumes functions of " crate
+            if (match($0, /\([0-9]+ of the /)) named += substr($0, RSTART + 1)
+        }
+        /^logic=/ {
+            for (i = 1; i <= NF; i++) {
+                if ($i ~ /^foreign=/) print "assumes C functions of its own, " $i
+                if ($i ~ /^axioms=/) counted += substr($i, 8)
+            }
+        }
+        END { if (counted + 0 != named + 0) print "assumes " counted + 0 " functions and names " named + 0 }' "$1"
+}
+
+# A program may rest on the contracts of libc, which the kit declares, and on nothing else; a library on none.
+only_libc_is_assumed() { # ROOT OUTPUT
+    local faults=0 name kind log line
+    for name in $(crate_names "$1"); do
+        kind=library
+        [ ! -f "$1/crates/$name/src/main.rt" ] || kind=program
+        log=$1/target/log/$name.out
+        [ -s "$log" ] || fault "the $kind $name has left no log"
+        while IFS= read -r line; do
+            fault "the $kind $name $line"
+        done < <([ ! -s "$log" ] || assumed_too_much "$log" "$kind")
+    done
+    [ "$faults" -eq 0 ]
+}
