@@ -9,7 +9,7 @@ use native.Mathlib.Omega.{arith}
 use borrow.Author.Tests.{leb-true, leb-false, ltb-true, eqb-false, le-leb, lt-leb, lt-ltb, ne-eqb, not-true}
 use lib.Dec.{leb, ltb, eqb, lit<, lit≤}
 use lib.ListN.{getD}
-use Rattle.laws.proofs.Tests.{both, both-left, both-right, other, not-holds, not-fails}
+use Rattle.laws.proofs.Tests.{both, both-left, both-right, holds-other, not-holds, not-fails}
 use Rattle.laws.proofs.SearchLaws.{root-of, root-unique}
 use Rattle.laws.proofs.Table.{at}
 use Rattle.coding.specs.Base.{base, limit, usedClass}
@@ -84,7 +84,7 @@ pub starts-right : (c : ℕ) → 1 ≤ c → c < 64 → classStart base c ≡ ge
 unfolding starts
 starts-right c h g =
     let s = getD starts c 0 in
-    let e = other (leb c 0) _ (at startAt starts refl c g) (lt-leb c 0 h) in
+    let e = holds-other (leb c 0) _ (at startAt starts refl c g) (lt-leb c 0 h) in
     let f = both-right (leb 1 s) _ e in
     let some = leb-true 1 s (both-left (leb 1 s) _ e) in
     let r = leb-true (7 ^ (c - 1)) (s * 5 ^ (c - 1)) (both-left (reaches base (c - 1) s) _ f) in
@@ -99,7 +99,7 @@ numbers-right c t =
     let r = getD numbers c 0 in
     let x = 7 ^ (2 * c - 1) in
     let y = 5 ^ (2 * c - 1) in
-    let e = other (not (usedClass c)) _ (at numberAt numbers refl c (u .1)) (not-fails (usedClass c) t) in
+    let e = holds-other (not (usedClass c)) _ (at numberAt numbers refl c (u .1)) (not-fails (usedClass c) t) in
     let pos = one-le-pow (2 * c - 1) 5 (omega arith) in
     root-unique x y pos (classNumber base c) r (number-is base (omega arith) (omega arith) c (u .0))
     (root-of x y pos r (leb-true _ _ (both-left (leb (r * r * y) x) _ e)) (ltb-true _ _ (both-right (leb (r * r * y) x) _ e)))
@@ -132,7 +132,7 @@ unfolding starts numbers
 close c t =
     let u = used-says c t in
     let r = getD numbers c 0 in
-    let e = other (not (usedClass c)) _ (at closeAt numbers refl c (u .1)) (not-fails (usedClass c) t) in
+    let e = holds-other (not (usedClass c)) _ (at closeAt numbers refl c (u .1)) (not-fails (usedClass c) t) in
     let f = both-right (inClass base c r) _ e in
     let g = both-right (ltb r (2 ^ 31)) _ f in
     let i = both-left (inClass base c r) _ e in

@@ -11,7 +11,7 @@ use lib.Dec.{leb}
 use lib.Bits.{bitOr, or-shifted}
 use lib.Count.{leadingZeros, leading-top}
 use lib.Pow.{pow-add, pow-mono}
-use Rattle.laws.proofs.Tests.{true-not-false, both, both-left, both-right}
+use Rattle.laws.proofs.Tests.{true-not-false, both, both-left, both-right, is-false, same-test}
 use Rattle.coding.specs.Base.{base, limit, countable, usedClass}
 use Rattle.coding.specs.Class.{classOf, classStart, classNumber}
 use Rattle.coding.specs.Total.{shift, bits, totalCode, middle, totalNumber, codeBits, codeShift, validFields, validCode}
@@ -19,7 +19,7 @@ use Rattle.coding.proofs.ClassLaws.{Reached, class-eq, start-is, reached-up}
 use Rattle.coding.proofs.BaseLaws.{used-says, reached-by-two, reached-small}
 use Rattle.coding.proofs.TotalLaws.{Valid, shift-eq, shift-small, bits-small, valid-says, says-valid, number-small}
 use Rattle.tables.specs.Entries.{startOf, numberOf, middleOf}
-use Rattle.counts.specs.Reply.{answered, refused}
+use Rattle.laws.specs.Reply.{answered, refused}
 
 -- ---- a test decides between the answer and the refusal
 
@@ -31,20 +31,15 @@ pub turned-away : (t : Bool) (v n : ℕ) → t ≡ false → refused n ≡ cond 
 turned-away true v n e = absurd (true-not-false refl e)
 turned-away false v n e = refl
 
--- a test that cannot hold fails
-fails : (t : Bool) → (t ≡ true → ⊥) → t ≡ false
-fails true h = absurd (h refl)
-fails false h = refl
-
 pub in-range : (v : ℕ) → 1 ≤ v → v ≤ limit → countable v ≡ true
 in-range v h l = both (leb 1 v) (leb v limit) (le-leb 1 v h) (le-leb v limit l)
 
 pub out-of-range : (v : ℕ) → (1 ≤ v → v ≤ limit → ⊥) → countable v ≡ false
 out-of-range v h =
-    fails (countable v) (λ t. h (leb-true 1 v (both-left (leb 1 v) _ t)) (leb-true v limit (both-right (leb 1 v) _ t)))
+    is-false (countable v) (λ t. h (leb-true 1 v (both-left (leb 1 v) _ t)) (leb-true v limit (both-right (leb 1 v) _ t)))
 
 pub not-used : (c : ℕ) → (1 ≤ c → c < 63 → (c ≡ 2 → ⊥) → ⊥) → usedClass c ≡ false
-not-used c h = fails (usedClass c) (λ t. let u = used-says c t in h (u .0) (u .1) (u .2))
+not-used c h = is-false (usedClass c) (λ t. let u = used-says c t in h (u .0) (u .1) (u .2))
 
 -- ---- the place of the highest set bit
 
@@ -129,8 +124,7 @@ bits-shifted t s e = rw e (refl, bits-small t)
 
 -- a test is that of validity if it holds exactly then
 pub valid-by : (t : Bool) (b s : ℕ) → (t ≡ true → Valid b s) → (Valid b s → t ≡ true) → t ≡ validFields b s
-valid-by true b s h g = sym (says-valid b s (h refl))
-valid-by false b s h g = sym (fails (validFields b s) (λ e. true-not-false (g (valid-says b s e)) refl))
+valid-by t b s h g = same-test t (validFields b s) (λ e. says-valid b s (h e)) (λ e. g (valid-says b s e))
 
 pub never-valid : (b s : ℕ) → (Valid b s → ⊥) → false ≡ validFields b s
 never-valid b s h = valid-by false b s (λ e. absurd (true-not-false e refl)) (λ v. absurd (h v))

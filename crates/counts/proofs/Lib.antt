@@ -1,1 +1,2 @@
 mod CountLaws
+pub mod CallLaws

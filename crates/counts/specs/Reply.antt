@@ -2,6 +2,7 @@
 -- Assumes nothing.
 use mathlib.Core.Bool.{cond}
 use Prim.Native.Nat.{ℕ}
+use Rattle.laws.specs.Reply.{Reply, answered, refused}
 use Rattle.coding.specs.Base.{base, countable, usedClass}
 use Rattle.coding.specs.Class.{classOf, classNumber}
 use Rattle.coding.specs.Total.{totalCode, totalNumber, validCode}
@@ -9,16 +10,6 @@ use Rattle.counts.specs.declared.Coded.{Coded}
 use Rattle.counts.specs.declared.Coded.the-variants.{Code, Refused as NotCoded}
 use Rattle.counts.specs.declared.Meaning.{Meaning}
 use Rattle.counts.specs.declared.Meaning.the-variants.{Number, Refused as NotRead}
-
-pub record Reply : Type 0 where
-  pub refusal : ℕ
-  pub value : ℕ
-
-abbrev pub answered : ℕ → Reply
-answered v = record { refusal = 0; value = v }
-
-abbrev pub refused : ℕ → Reply
-refused n = record { refusal = n; value = 0 }
 
 -- the number and the value of each case of an answer
 abbrev pub codedReply : Coded → Reply

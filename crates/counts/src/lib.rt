@@ -4,7 +4,7 @@ ghost use mathlib.Core.Path.{_≡_};
 ghost use Prim.Native.Nat.{_≤_, _<_};
 ghost use Rattle.coding.specs.Base.{base, limit};
 ghost use Rattle.coding.specs.Class.{classOf};
-ghost use Rattle.coding.specs.Total.{shift, validFields};
+ghost use Rattle.coding.specs.Total.{shift, validFields, validCode};
 ghost use Rattle.counts.specs.Reply.{codedReply, meaningReply};
 ghost use Rattle.counts.specs.Reply.{classReply, classMeaning, totalReply, totalMeaning};
 
@@ -104,14 +104,21 @@ fn is_valid(bits: u32, shift: u32) -> bool
     64 <= bits
 }
 
+// Whether a code is a valid total code.
+pub fn is_total_code(code: u32) -> bool
+    ensures { λ r. ⌜ r ≡ validCode code ⌝ }
+{
+    is_valid(code >> 5, code & 31)
+}
+
 // The number that a total code stands for, or 17.
 pub fn number_of_total(code: u32) -> Meaning
     ensures { λ r. ⌜ meaningReply r ≡ totalMeaning code ⌝ }
 {
-    let bits = code >> 5;
-    let shift = code & 31;
-    if !is_valid(bits, shift) {
+    if !is_total_code(code) {
         return Meaning::Refused;
     }
+    let bits = code >> 5;
+    let shift = code & 31;
     Meaning::Number((bits << shift) + tables::shift_middle(shift))
 }

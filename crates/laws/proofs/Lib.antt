@@ -1,3 +1,9 @@
 pub mod Tests
 pub mod SearchLaws
 pub mod Table
+pub mod EachLaws
+pub mod RefusalLaws
+pub mod SumsLaws
+pub mod FieldLaws
+pub mod GreatestLaws
+pub mod Filled

@@ -33,13 +33,17 @@ first-is p (suc k) n = go (p n) refl (first-is p k (suc n))
           passes = λ h. f .passes (omega arith);
         }
 
--- a number that passes, with none before it that does, is the one found
-pub first-eq : (p : ℕ → Bool) (k n r : ℕ) → n ≤ r → r < n + k → ((m : ℕ) → n ≤ m → m < r → p m ≡ false) → p r ≡ true → first p k n ≡ r
-first-eq p k n r g h b t =
+-- what a search finds is the only such number
+pub first-unique : (p : ℕ → Bool) (k n r : ℕ) → Found p k n r → first p k n ≡ r
+first-unique p k n r g =
     let f = first-is p k n in
-    let over : r < first p k n → ⊥ = λ l. true-not-false t (f .before r g l) in
-    let under : first p k n < r → ⊥ = λ l. true-not-false (f .passes (omega arith)) (b (first p k n) (f .from) l) in
+    let over : r < first p k n → ⊥ = λ l. true-not-false (g .passes (omega (arith, f .within))) (f .before r (g .from) l) in
+    let under : first p k n < r → ⊥ = λ l. true-not-false (f .passes (omega (arith, g .within))) (g .before (first p k n) (f .from) l) in
     omega arith
+
+-- so a number that passes, with none before it that does, is the one found
+pub first-eq : (p : ℕ → Bool) (k n r : ℕ) → n ≤ r → r < n + k → ((m : ℕ) → n ≤ m → m < r → p m ≡ false) → p r ≡ true → first p k n ≡ r
+first-eq p k n r g h b t = first-unique p k n r (record { from = g; within = omega arith; before = b; passes = λ _. t })
 
 -- l is the largest number up to k such that each from 1 to it passes
 pub record Largest (p : ℕ → Bool) (k l : ℕ) : Type 0 where
@@ -57,10 +61,11 @@ largest-is p k =
       next = λ h. not-true _ (f .passes (omega arith));
     }
 
-pub largest-eq : (p : ℕ → Bool) (k l : ℕ) → l < k → ((m : ℕ) → m < l → p (suc m) ≡ true) → p (suc l) ≡ false → largest p k ≡ l
+pub largest-unique : (p : ℕ → Bool) (k l : ℕ) → Largest p k l → largest p k ≡ l
 unfolding largest
-largest-eq p k l h b t =
-    first-eq (λ n. not (p (suc n))) k 0 l (omega arith) (omega arith) (λ m _ g. ap not (b m g)) (not-holds _ t)
+largest-unique p k l r =
+    first-unique (λ n. not (p (suc n))) k 0 l
+    (record { from = omega arith; within = omega (arith, r .within); before = λ m _ g. ap not (r .passing m g); passes = λ h. not-holds _ (r .next (omega arith)) })
 
 module _ (x y : ℕ) (pos : 0 < y) where
   -- a root whose next square is too large is the root

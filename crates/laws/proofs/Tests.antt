@@ -1,7 +1,7 @@
 -- Tests taken apart: what a conjunction, a negation or a choice says.
 -- Assumes nothing.
-use mathlib.Core.Path.{_≡_, refl}
-use mathlib.Core.Bool.{Bool, true, false, not, _&&_, _||_}
+use mathlib.Core.Path.{_≡_, refl, sym}
+use mathlib.Core.Bool.{Bool, true, false, cond, not, _&&_, _||_}
 use mathlib.Core.Logic.{_⊎_, inl, inr}
 use Prim.Native.Nat.{ℕ}
 use native.Mathlib.Omega.{arith}
@@ -31,6 +31,11 @@ pub fails-right : (a b : Bool) → b ≡ false → (a && b) ≡ false
 fails-right true b p = p
 fails-right false b p = refl
 
+-- and not the other
+pub fails-other : (a b : Bool) → (a && b) ≡ false → a ≡ true → b ≡ false
+fails-other true b p t = p
+fails-other false b p t = absurd (true-not-false t refl)
+
 -- one of the two holds
 pub holds-left : (a b : Bool) → a ≡ true → (a || b) ≡ true
 holds-left true b p = refl
@@ -44,14 +49,22 @@ pub neither : (a b : Bool) → a ≡ false → b ≡ false → (a || b) ≡ fals
 neither true b p q = p
 neither false b p q = q
 
+pub neither-left : (a b : Bool) → (a || b) ≡ false → a ≡ false
+neither-left true b p = p
+neither-left false b p = refl
+
+pub neither-right : (a b : Bool) → (a || b) ≡ false → b ≡ false
+neither-right true b p = absurd (true-not-false refl p)
+neither-right false b p = p
+
 pub either : (a b : Bool) → (a || b) ≡ true → (a ≡ true) ⊎ (b ≡ true)
 either true b p = inl refl
 either false b p = inr p
 
 -- the second holds where the first does not
-pub other : (a b : Bool) → (a || b) ≡ true → a ≡ false → b ≡ true
-other true b p q = absurd (true-not-false refl q)
-other false b p q = p
+pub holds-other : (a b : Bool) → (a || b) ≡ true → a ≡ false → b ≡ true
+holds-other true b p q = absurd (true-not-false refl q)
+holds-other false b p q = p
 
 -- the opposite of a test
 pub not-holds : (t : Bool) → t ≡ false → not t ≡ true
@@ -62,7 +75,36 @@ pub not-fails : (t : Bool) → t ≡ true → not t ≡ false
 not-fails true p = refl
 not-fails false p = absurd (true-not-false p refl)
 
+-- a test that cannot fail holds, and one that cannot hold fails
+pub is-true : (t : Bool) → (t ≡ false → ⊥) → t ≡ true
+is-true true h = refl
+is-true false h = absurd (h refl)
+
+pub is-false : (t : Bool) → (t ≡ true → ⊥) → t ≡ false
+is-false true h = absurd (h refl)
+is-false false h = refl
+
+-- two tests that hold and fail together are one
+pub agree : (s t : Bool) → (s ≡ true → t ≡ true) → (s ≡ false → t ≡ false) → s ≡ t
+agree true t p q = sym (p refl)
+agree false t p q = sym (q refl)
+
+-- two tests that imply one another are one
+pub same-test : (s t : Bool) → (s ≡ true → t ≡ true) → (t ≡ true → s ≡ true) → s ≡ t
+same-test true t f g = sym (f refl)
+same-test false true f g = g refl
+same-test false false f g = refl
+
 -- a test holds or fails
 pub tested : (t : Bool) → (t ≡ true) ⊎ (t ≡ false)
 tested true = inl refl
 tested false = inr refl
+
+-- a choice by a test that is known
+pub chosen {ℓ} : {A : Type ℓ} (t : Bool) (x y : A) → t ≡ true → x ≡ cond t x y
+chosen true x y p = refl
+chosen false x y p = absurd (true-not-false p refl)
+
+pub not-chosen {ℓ} : {A : Type ℓ} (t : Bool) (x y : A) → t ≡ false → y ≡ cond t x y
+not-chosen true x y p = absurd (true-not-false refl p)
+not-chosen false x y p = refl

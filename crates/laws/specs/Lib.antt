@@ -1,1 +1,7 @@
 pub mod Search
+pub mod Each
+pub mod Refusal
+pub mod Reply
+pub mod Sums
+pub mod Field
+pub mod Greatest

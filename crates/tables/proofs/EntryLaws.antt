@@ -7,7 +7,7 @@ use native.Mathlib.Omega.{arith}
 use borrow.Author.Tests.{leb-true, leb-false, ltb-true, ltb-false, eqb-true, le-leb}
 use lib.Dec.{leb, ltb, eqb}
 use lib.ListN.{getD, List·getD-eq-default}
-use Rattle.laws.proofs.Tests.{both, both-left, both-right, other, true-not-false}
+use Rattle.laws.proofs.Tests.{both, both-left, both-right, holds-other, true-not-false}
 use Rattle.laws.proofs.Table.{at}
 use Rattle.coding.specs.Base.{base, usedClass}
 use Rattle.coding.specs.Class.{classStart, classNumber}
@@ -45,7 +45,7 @@ number-entry c = chosen (usedClass c) (getD numbers c 0) (classNumber base c) (�
     outside t = go (ltb c 63) refl
       where
         go : (b : Bool) → ltb c 63 ≡ b → getD numbers c 0 ≡ 0
-        go true e = eqb-true _ _ (other (usedClass c) _ (at (λ k x. usedClass k || eqb x 0) numbers refl c (ltb-true c 63 e)) t)
+        go true e = eqb-true _ _ (holds-other (usedClass c) _ (at (λ k x. usedClass k || eqb x 0) numbers refl c (ltb-true c 63 e)) t)
         go false e = List·getD-eq-default numbers 0 (ltb-false c 63 e)
 
 pub middle-entry : (s : ℕ) → getD middles s 0 ≡ middleOf s

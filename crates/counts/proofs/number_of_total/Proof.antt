@@ -1,6 +1,6 @@
 -- `counts::number_of_total` meets its contract. The fields are taken out by a shift and a mask, and their number is added up.
 -- Assumes nothing.
-use mathlib.Core.Path.{_≡_}
+use mathlib.Core.Path.{_≡_, sym, _∙_}
 use mathlib.Core.Bool.{Bool, true, false}
 use Prim.Native.Nat.{_/_}
 use native.Mathlib.Omega.{arith}
@@ -9,18 +9,16 @@ use borrow.Author.Tests.{not-true, not-false}
 use lib.Bits.{and-mask}
 use Rattle.coding.specs.Total.{validCode, totalNumber}
 use Rattle.counts.specs.Reply.{totalMeaning}
-use Rattle.counts.proofs.CountLaws.{replied, turned-away, validity, number-packed}
+use Rattle.counts.proofs.CountLaws.{replied, turned-away, number-packed}
 use Rattle.counts.proofs.number_of_total.Statement.{statement}
 use Rattle.counts.proofs.number_of_total.Tie as tie
 
-is-valid-requires : tie.Need-is-valid-requires
-is-valid-requires c κs = search needs
+is-total-code-requires : tie.Need-is-total-code-requires
+is-total-code-requires c κs = search needs
 
--- what the test of the fields says
-tested : (c : tie.After-is-valid) (u : Bool) → c .is-valid .result ≡ u → validCode (c .before .args .code) ≡ u
-tested c u e =
-    let n = c .before .args .code in
-    validity n _ _ _ u (omega arith) (omega (arith, and-mask n 5)) (c .is-valid .ensures) e
+-- what the test of the code says
+tested : (c : tie.After-is-total-code) (u : Bool) → c .is-total-code .result ≡ u → validCode (c .before .args .code) ≡ u
+tested c u e = sym (c .is-total-code .ensures) ∙ e
 
 returns : tie.Need-returns
 unfolding totalMeaning
@@ -51,4 +49,4 @@ returns-2 c =
 
 pub number-of-total-spec : {M : Type 1} → statement M
 number-of-total-spec =
-    tie.close (tie.spec is-valid-requires returns shl-t6 shift-middle-requires add-t8 returns-2)
+    tie.close (tie.spec is-total-code-requires returns shl-t6 shift-middle-requires add-t8 returns-2)

@@ -1,0 +1,46 @@
+-- Laws of `each` and `some` (specs/Each.antt): what they say of a number below n, and what shows them. By induction on n.
+-- Assumes nothing.
+use mathlib.Core.Path.{_≡_, refl, sym, ap, _∙_}
+use mathlib.Core.Bool.{Bool, true, false, not}
+use mathlib.Core.Logic.{⊎-elim}
+use Prim.Native.Nat.{ℕ, zero, suc, _<_}
+use native.Mathlib.Nat.{eq-or-lt-of-le, le-of-suc-le-suc}
+use native.Mathlib.Omega.{arith}
+use borrow.Author.Tests.{not-true, not-false}
+use Rattle.laws.specs.Each.{each, some}
+use Rattle.laws.proofs.Tests.{both, both-left, both-right, fails-left, fails-right, not-holds}
+
+pub each-at : (n : ℕ) (p : ℕ → Bool) → each n p ≡ true → (i : ℕ) → i < n → p i ≡ true
+unfolding each
+each-at zero p t i h = absurd (omega arith)
+each-at (suc n) p t i h =
+    ⊎-elim
+    (λ (e : i ≡ n). ap p e ∙ both-right (each n p) (p n) t)
+    (λ (l : i < n). each-at n p (both-left (each n p) (p n) t) i l)
+    (eq-or-lt-of-le (le-of-suc-le-suc h))
+
+pub each-all : (n : ℕ) (p : ℕ → Bool) → ((i : ℕ) → i < n → p i ≡ true) → each n p ≡ true
+unfolding each
+each-all zero p f = refl
+each-all (suc n) p f = both (each n p) (p n) (each-all n p (λ i h. f i (omega arith))) (f n (omega arith))
+
+pub each-fails : (n : ℕ) (p : ℕ → Bool) (i : ℕ) → i < n → p i ≡ false → each n p ≡ false
+unfolding each
+each-fails zero p i h f = absurd (omega arith)
+each-fails (suc n) p i h f =
+    ⊎-elim
+    (λ (e : i ≡ n). fails-right (each n p) (p n) (ap p (sym e) ∙ f))
+    (λ (l : i < n). fails-left (each n p) (p n) (each-fails n p i l f))
+    (eq-or-lt-of-le (le-of-suc-le-suc h))
+
+pub some-at : (n : ℕ) (p : ℕ → Bool) (i : ℕ) → i < n → p i ≡ true → some n p ≡ true
+unfolding some
+some-at n p i h t = not-holds _ (each-fails n (λ j. not (p j)) i h (ap not t))
+
+pub some-none : (n : ℕ) (p : ℕ → Bool) → ((i : ℕ) → i < n → p i ≡ false) → some n p ≡ false
+unfolding some
+some-none n p f = ap not (each-all n (λ j. not (p j)) (λ i h. not-holds _ (f i h)))
+
+pub none-at : (n : ℕ) (p : ℕ → Bool) → some n p ≡ false → (i : ℕ) → i < n → p i ≡ false
+unfolding some
+none-at n p f i h = not-true _ (each-at n (λ j. not (p j)) (not-false _ f) i h)

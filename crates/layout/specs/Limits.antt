@@ -1,0 +1,35 @@
+-- The limits of a list, of theta and q, and of a width (document 01, "The list and the range" and "Building").
+-- Assumes nothing.
+use mathlib.Core.Bool.{Bool, _&&_}
+use Prim.Native.Nat.{ℕ, _*_}
+use lib.Dec.{leb}
+
+abbrev pub between : ℕ → ℕ → ℕ → Bool
+between lo hi n = leb lo n && leb n hi
+
+-- the number of entries, d
+abbrev pub maxEntries : ℕ
+maxEntries = 65536
+
+abbrev pub entriesGood : ℕ → Bool
+entriesGood d = between 1 maxEntries d
+
+abbrev pub maxTheta : ℕ
+maxTheta = 1048575
+
+abbrev pub thetaGood : ℕ → Bool
+thetaGood theta = between 1 maxTheta theta
+
+-- q is qn/qd, and at least 5/4
+abbrev pub maxQ : ℕ
+maxQ = 1000
+
+abbrev pub qGood : ℕ → ℕ → Bool
+qGood qn qd = between 1 maxQ qn && between 1 maxQ qd && leb (5 * qd) (4 * qn)
+
+-- a width that is listed has nine bits
+abbrev pub maxListed : ℕ
+maxListed = 511
+
+abbrev pub maxWidth : ℕ
+maxWidth = 4095

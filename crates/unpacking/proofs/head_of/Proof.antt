@@ -1,0 +1,47 @@
+-- `unpacking::head_of` meets its contract, field by field by what the calls ensure.
+-- Assumes nothing.
+use borrow.Author.Needs.{needs}
+use Rattle.layout.specs.Words.{word}
+use Rattle.unpacking.proofs.head_of.Statement.{statement}
+use Rattle.unpacking.proofs.head_of.Tie as tie
+
+array-read-t5 : tie.Need-array-read-t5
+array-read-t5 c = search needs
+
+array-read-t8 : tie.Need-array-read-t8
+array-read-t8 c = search needs
+
+array-read-field-of : tie.Need-array-read-field-of
+array-read-field-of c = search needs
+
+field-of-requires : tie.Need-field-of-requires
+field-of-requires c κs = search needs
+
+array-read-field-of-2 : tie.Need-array-read-field-of-2
+array-read-field-of-2 c = search needs
+
+field-of-requires-2 : tie.Need-field-of-requires-2
+field-of-requires-2 c κs = search needs
+
+array-read-t19 : tie.Need-array-read-t19
+array-read-t19 c = search needs
+
+returns : tie.Need-returns
+returns c =
+    let four = c .before .before .args .t1 in
+    let n = c .before .field-of .ensures in
+    let d = c .field-of2 .ensures in
+    λ i. record { entries = word four 0; theta = word four 1; qn = n i; qd = d i; buckets = word four 3 }
+
+pub head-of-spec : {M : Type 1} → statement M
+head-of-spec =
+    tie.close
+    (tie.spec
+    array-read-t5
+    array-read-t8
+    array-read-field-of
+    field-of-requires
+    array-read-field-of-2
+    field-of-requires-2
+    array-read-t19
+    returns)

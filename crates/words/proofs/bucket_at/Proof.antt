@@ -1,0 +1,25 @@
+-- `words::bucket_at` meets its contract: it decodes the words that were read.
+-- Assumes nothing.
+use mathlib.Core.Path.{_∙_}
+use borrow.Author.Needs.{needs}
+use Rattle.layout.specs.Decoded.{decode}
+use Rattle.words.proofs.bucket_at.Statement.{statement}
+use Rattle.words.proofs.bucket_at.Tie as tie
+
+five-at-requires : tie.Need-five-at-requires
+five-at-requires c κs = search needs
+
+end-at-requires : tie.Need-end-at-requires
+end-at-requires c κs = search needs
+
+decode-requires : tie.Need-decode-requires
+decode-requires c κs = search needs
+
+returns : tie.Need-returns
+returns c =
+    let five = c .before .before .five-at .ensures in
+    let end = c .before .end-at .ensures in
+    c .decode .ensures ∙ (λ i. decode (five i) (end i))
+
+pub bucket-at-spec : {M : Type 1} → statement M
+bucket-at-spec = tie.close (tie.spec five-at-requires end-at-requires decode-requires returns)

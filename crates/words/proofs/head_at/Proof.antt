@@ -1,0 +1,42 @@
+-- `words::head_at` meets its contract: the head of the four words that were read is the head of the list.
+-- Assumes nothing.
+use mathlib.Core.Path.{_∙_}
+use mathlib.Core.List.{[], _∷_}
+use borrow.Author.Needs.{needs}
+use Rattle.layout.specs.Words.{headOf}
+use Rattle.words.proofs.head_at.Statement.{statement}
+use Rattle.words.proofs.head_at.Tie as tie
+
+entry-count-requires : tie.Need-entry-count-requires
+entry-count-requires c κs = search needs
+
+word-at-requires : tie.Need-word-at-requires
+word-at-requires c κs = search needs
+
+word-at-requires-2 : tie.Need-word-at-requires-2
+word-at-requires-2 c κs = search needs
+
+bucket-count-requires : tie.Need-bucket-count-requires
+bucket-count-requires c κs = search needs
+
+head-of-requires : tie.Need-head-of-requires
+head-of-requires c κs = search needs
+
+returns : tie.Need-returns
+returns c =
+    let d = c .before .before .before .before .entry-count .ensures in
+    let t = c .before .before .before .word-at .ensures in
+    let q = c .before .before .word-at2 .ensures in
+    let n = c .before .bucket-count .ensures in
+    c .head-of .ensures ∙ (λ i. headOf (d i ∷ t i ∷ q i ∷ n i ∷ []))
+
+pub head-at-spec : {M : Type 1} → statement M
+head-at-spec =
+    tie.close
+    (tie.spec
+    entry-count-requires
+    word-at-requires
+    word-at-requires-2
+    bucket-count-requires
+    head-of-requires
+    returns)

@@ -1,0 +1,104 @@
+// What a list of words says: its head, and the span and the content of each of its buckets. Past the end of the list each word reads 0,
+// so that every call has an answer for every list and every number.
+
+use layout::Bucket;
+use layout::Head;
+ghost use mathlib.Core.Path.{_≡_};
+ghost use Prim.Native.Nat.{_<_};
+ghost use Rattle.layout.specs.Words.{word, place, entries, buckets, headOf, fiveWords, start, end, span};
+ghost use Rattle.layout.specs.Decoded.{bucketAt};
+
+pub const HEAD_WORDS: usize = 4;
+
+pub const BUCKET_WORDS: usize = 5;
+
+// Word i.
+pub fn word_at(words: &[u32], i: usize) -> u32
+    ensures { λ r. ⌜ r ≡ word (now (words .entry)) i ⌝ }
+{
+    if i < words.len() { words[i] } else { 0 }
+}
+
+// The number of entries, d.
+pub fn entry_count(words: &[u32]) -> u32
+    ensures { λ r. ⌜ r ≡ entries (now (words .entry)) ⌝ }
+{
+    word_at(words, 0)
+}
+
+pub fn bucket_count(words: &[u32]) -> u32
+    ensures { λ r. ⌜ r ≡ buckets (now (words .entry)) ⌝ }
+{
+    word_at(words, 3)
+}
+
+// What the four head words hold.
+pub fn head_at(words: &[u32]) -> Head
+    ensures { λ r. ⌜ r ≡ headOf (now (words .entry)) ⌝ }
+{
+    unpacking::head_of([
+        entry_count(words),
+        word_at(words, 1),
+        word_at(words, 2),
+        bucket_count(words),
+    ])
+}
+
+// Word j of bucket b. A number of a bucket that is not below the list's length is past its end, and five times it may not fit.
+fn bucket_word(words: &[u32], b: usize, j: usize) -> u32
+    requires { ⌜ j < 5 ⌝ }
+    ensures { λ r. ⌜ r ≡ word (now (words .entry)) (place b j) ⌝ }
+{
+    if b < words.len() {
+        word_at(words, HEAD_WORDS + BUCKET_WORDS * b + j)
+    } else {
+        0
+    }
+}
+
+// The five words of bucket b.
+pub fn five_at(words: &[u32], b: usize) -> [u32; 5]
+    ensures { λ r. ⌜ r ≡ fiveWords (now (words .entry)) b ⌝ }
+{
+    [
+        bucket_word(words, b, 0),
+        bucket_word(words, b, 1),
+        bucket_word(words, b, 2),
+        bucket_word(words, b, 3),
+        bucket_word(words, b, 4),
+    ]
+}
+
+// The entry with which bucket b starts.
+pub fn start_at(words: &[u32], b: usize) -> u32
+    ensures { λ r. ⌜ r ≡ start (now (words .entry)) b ⌝ }
+{
+    unpacking::start_of(bucket_word(words, b, 0))
+}
+
+// The entry before which bucket b ends: the next one's start, of the last the number of entries.
+pub fn end_at(words: &[u32], b: usize) -> u32
+    ensures { λ r. ⌜ r ≡ end (now (words .entry)) b ⌝ }
+{
+    let buckets = bucket_count(words) as usize;
+    if b < buckets && b + 1 < buckets {
+        return start_at(words, b + 1);
+    }
+    entry_count(words)
+}
+
+// The number of entries of bucket b; 0 where it would end before it starts.
+pub fn span_at(words: &[u32], b: usize) -> u32
+    ensures { λ r. ⌜ r ≡ span (now (words .entry)) b ⌝ }
+{
+    let start = start_at(words, b);
+    let end = end_at(words, b);
+    if end < start { 0 } else { end - start }
+}
+
+// Bucket b, decoded.
+pub fn bucket_at(words: &[u32], b: usize) -> Bucket
+    ensures { λ r. ⌜ r ≡ bucketAt (now (words .entry)) b ⌝ }
+{
+    unpacking::decode(five_at(words, b), end_at(words, b))
+}
