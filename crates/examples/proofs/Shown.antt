@@ -1,6 +1,7 @@
 -- The starred examples hold of the definitions. Assumes nothing.
-use Rattle.coding.proofs.Computed.{worked}
+use Rattle.coding.proofs.Computed as coding
+use Rattle.histogram.proofs.Computed as histogram
 use Rattle.examples.specs.Starred.{Starred}
 
 pub starred : Starred
-starred = record { codings = worked }
+starred = record { codings = coding.worked; histograms = histogram.worked }

@@ -1,6 +1,8 @@
 -- The starred examples of document 01, "Examples", as one claim about the definitions.
 -- Assumes nothing.
-use Rattle.coding.specs.Worked.{Worked}
+use Rattle.coding.specs.Worked as coding
+use Rattle.histogram.specs.Worked as histogram
 
 pub record Starred : Type 0 where
-  pub codings : Worked
+  pub codings : coding.Worked
+  pub histograms : histogram.Worked

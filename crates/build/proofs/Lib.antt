@@ -1,0 +1,5 @@
+mod GrowthLaws
+mod BoundLaws
+mod GrowLaws
+mod LayLaws
+mod FillLaws

@@ -1,0 +1,66 @@
+-- `build::build` meets its contract: a refusal leaves the lent words as they were, and else the histogram stands before what is left of them.
+-- Assumes nothing.
+use mathlib.Core.Path.{_≡_, _∙_}
+use native.Mathlib.Omega.{arith}
+use borrow.Author.Needs.{needs}
+use Rattle.laws.specs.Refusal.{refusal}
+use Rattle.histogram.specs.Building.{inputs}
+use Rattle.histogram.proofs.SoundLaws.{sound-of}
+use Rattle.histogram.proofs.BuildingLaws.{refused-by, input-fault, short-fault, answered-by}
+use Rattle.build.proofs.build.Statement.{statement}
+use Rattle.build.proofs.build.Tie as tie
+
+input-fault-requires : tie.Need-input-fault-requires
+input-fault-requires c κs = search needs
+
+returns : tie.Need-returns
+returns c =
+    let a = c .before .before .before .before .args in
+    let e = c .before .input-fault .ensures in
+    refused-by (a .freqs .now) (a .theta) (a .qn) (a .qd) (a .out .now) _ (e ∙ input-fault (a .freqs .now) (a .theta) (a .qn) (a .qd) (a .out .now) (λ z. omega arith)) (λ z. omega arith)
+
+-- the input is sound
+passed : (c : tie.Else1) → let a = c .before .before .before .before .args in refusal (inputs (a .freqs .now) (a .theta) (a .qn) (a .qd)) ≡ 0
+passed c = let e = c .before .input-fault .ensures in omega arith
+
+slice-aggregate-put-histogram : tie.Need-slice-aggregate-put-histogram
+slice-aggregate-put-histogram c = search needs
+
+put-histogram-requires : tie.Need-put-histogram-requires
+put-histogram-requires c κs = (sound-of _ _ _ _ (passed (c .before)), search needs)
+
+returns-2 : tie.Need-returns-2
+returns-2 c =
+    let a = c .before .before .before .before .before .before .before .before .args in
+    let h = c .before .before .put-histogram .ensures in
+    refused-by (a .freqs .now) (a .theta) (a .qn) (a .qd) (a .out .now) 6 (short-fault (a .freqs .now) (a .theta) (a .qn) (a .qd) (a .out .now) (passed (c .before .before .before .before)) (omega (arith, h .count))) (λ z. omega arith)
+
+slice-aggregate-copy : tie.Need-slice-aggregate-copy
+slice-aggregate-copy c = search needs
+
+copy-requires : tie.Need-copy-requires
+copy-requires c κs = search needs
+
+same-length : tie.Need-same-length
+same-length c = search needs
+
+returns-3 : tie.Need-returns-3
+returns-3 c =
+    let a = c .before .before .before .before .before .before .before .before .before .before .before .before .before .args in
+    let h = c .before .before .before .before .before .before .before .put-histogram .ensures in
+    let r = answered-by (a .freqs .now) (a .theta) (a .qn) (a .qd) (a .out .now) (passed (c .before .before .before .before .before .before .before .before .before)) _ _ (h .count) (h .front) (omega arith) in
+    (r .0, c .before .before .copy .ensures ∙ r .1)
+
+pub build-spec : {M : Type 1} → statement M
+build-spec =
+    tie.close
+    (tie.spec
+    input-fault-requires
+    returns
+    slice-aggregate-put-histogram
+    put-histogram-requires
+    returns-2
+    slice-aggregate-copy
+    copy-requires
+    same-length
+    returns-3)

@@ -1,0 +1,9 @@
+-- The number and the value of each case of the builder's answer.
+-- Assumes nothing.
+use Rattle.laws.specs.Reply.{Reply, answered, refused}
+use Rattle.build.specs.declared.Built.{Built}
+use Rattle.build.specs.declared.Built.the-variants.{Words, Refused}
+
+abbrev pub builtReply : Built → Reply
+builtReply (Words n) = answered n
+builtReply (Refused number) = refused number

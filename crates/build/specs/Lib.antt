@@ -1,0 +1,4 @@
+pub mod Built
+pub mod Growing
+pub mod Laying
+pub mod Filling

@@ -1,0 +1,337 @@
+// Lists that the builder is given, and what it makes of them: what each is, the figure expected and the figure that came.
+
+use build::Built;
+use libc::STDOUT_FILENO;
+
+struct Reply {
+    refusal: u32,
+    words: u32,
+}
+
+fn write(text: &[u8]) {
+    io::write_all(STDOUT_FILENO, text);
+}
+
+fn report(what: &[u8], expected: u32, got: u32) {
+    write(what);
+    write(b": expected ");
+    io::print_decimal(STDOUT_FILENO, expected as u64);
+    write(b", got ");
+    io::print_decimal(STDOUT_FILENO, got as u64);
+    if expected == got {
+        write(b", ok\n");
+    } else {
+        write(b", WRONG\n");
+    }
+}
+
+fn count(n: usize) -> u32 {
+    if n < 100000 { n as u32 } else { 100000 }
+}
+
+// The old contents of a lent list.
+const OLD: u32 = 0xABABABAB;
+
+fn replied(built: Built) -> Reply {
+    match built {
+        Built::Words(n) => Reply {
+            refusal: 0,
+            words: count(n),
+        },
+        Built::Refused(number) => Reply {
+            refusal: number,
+            words: 0,
+        },
+    }
+}
+
+// A list that is refused, or the number of words that come. The first word that is not written keeps its contents.
+fn case(what: &[u8], freqs: &[u32], theta: u32, qn: u32, qd: u32, refusal: u32, words: u32) {
+    let mut lent = [OLD; 16];
+    let got = replied(build::build(freqs, theta, qn, qd, &mut lent));
+    report(what, refusal, got.refusal);
+    report(b"  words", words, got.words);
+    if refusal == 0 {
+        report(b"  the word past them", OLD, lent[9]);
+    } else {
+        report(b"  the first word", OLD, lent[0]);
+    }
+}
+
+// The nine words of a list of one bucket.
+fn list(what: &[u8], freqs: &[u32], theta: u32, qn: u32, qd: u32, words: [u32; 9]) {
+    let mut lent = [OLD; 16];
+    let got = replied(build::build(freqs, theta, qn, qd, &mut lent));
+    report(what, 0, got.refusal);
+    report(b"  word 0", words[0], lent[0]);
+    report(b"  word 1", words[1], lent[1]);
+    report(b"  word 2", words[2], lent[2]);
+    report(b"  word 3", words[3], lent[3]);
+    report(b"  word 4", words[4], lent[4]);
+    report(b"  word 5", words[5], lent[5]);
+    report(b"  word 6", words[6], lent[6]);
+    report(b"  word 7", words[7], lent[7]);
+    report(b"  word 8", words[8], lent[8]);
+    report(b"  the word past them", OLD, lent[9]);
+}
+
+// The widths of one bucket.
+fn widths(
+    what: &[u8],
+    freqs: &[u32],
+    theta: u32,
+    qn: u32,
+    qd: u32,
+    bucket: usize,
+    expected: [u32; 8],
+) {
+    let mut lent = [OLD; 16];
+    let got = replied(build::build(freqs, theta, qn, qd, &mut lent));
+    report(what, 0, got.refusal);
+    let decoded = words::bucket_at(&lent, bucket);
+    report(b"  width 0", expected[0], decoded.widths[0]);
+    report(b"  width 1", expected[1], decoded.widths[1]);
+    report(b"  width 2", expected[2], decoded.widths[2]);
+    report(b"  width 3", expected[3], decoded.widths[3]);
+    report(b"  width 4", expected[4], decoded.widths[4]);
+    report(b"  width 5", expected[5], decoded.widths[5]);
+    report(b"  width 6", expected[6], decoded.widths[6]);
+    report(b"  width 7", expected[7], decoded.widths[7]);
+}
+
+fn examples() {
+    list(
+        b"four tens",
+        &[10, 10, 10, 10],
+        1,
+        3,
+        2,
+        [
+            4,
+            1,
+            0xC02,
+            1,
+            0x40000204,
+            0x8B000000,
+            0x80000500,
+            0xC0000000,
+            0xC0000000,
+        ],
+    );
+    list(
+        b"1 and 100",
+        &[1, 100],
+        1,
+        3,
+        2,
+        [
+            2,
+            1,
+            0xC02,
+            1,
+            0x40000201,
+            0x81380000,
+            0x80000CA0,
+            0xC0040000,
+            0xC0000000,
+        ],
+    );
+    list(
+        b"q 6/4 is stored as given",
+        &[10],
+        1,
+        6,
+        4,
+        [
+            1,
+            1,
+            0x1804,
+            1,
+            0x40000201,
+            0x87000000,
+            0x80000140,
+            0xC0000000,
+            0xC0000000,
+        ],
+    );
+}
+
+fn limits() {
+    let tens = [10u32, 10, 10, 10];
+    case(b"q 5/4", &tens, 1, 5, 4, 0, 9);
+    case(b"q 124/100", &tens, 1, 124, 100, 5, 0);
+    case(b"q 1000/1", &tens, 1, 1000, 1, 0, 9);
+    case(b"q 1001/1", &tens, 1, 1001, 1, 5, 0);
+    case(b"q 3/0", &tens, 1, 3, 0, 5, 0);
+    case(
+        b"q of the largest numbers",
+        &tens,
+        1,
+        4294967295,
+        4294967295,
+        5,
+        0,
+    );
+    case(b"theta 0", &tens, 0, 3, 2, 4, 0);
+    case(b"theta 0 and q 124/100", &tens, 0, 124, 100, 4, 0);
+    case(b"theta 1,048,575", &tens, 1048575, 3, 2, 0, 9);
+    case(b"theta 1,048,576", &tens, 1048576, 3, 2, 4, 0);
+    case(b"an empty list and theta 0", &[], 0, 3, 2, 1, 0);
+    case(b"a frequency of 0 and theta 0", &[5, 0], 0, 3, 2, 2, 0);
+    case(
+        b"a frequency of 0 and a large sum",
+        &[4294967295, 0],
+        1,
+        3,
+        2,
+        2,
+        0,
+    );
+    case(
+        b"a sum of 1,073,741,823",
+        &[536870912, 536870911],
+        1,
+        3,
+        2,
+        0,
+        9,
+    );
+    case(b"one more", &[536870912, 536870912], 1, 3, 2, 3, 0);
+    case(b"the largest frequency", &[4294967295], 1, 3, 2, 3, 0);
+    case(b"65,537 entries", &[1; 65537], 1, 3, 2, 1, 0);
+    case(b"65,537 entries of 0", &[0; 65537], 1, 3, 2, 1, 0);
+}
+
+// Four tens, whose histogram has nine words, with a list lent for it.
+fn lent(what: &[u8], out: &mut [u32], refusal: u32, words: u32) {
+    let got = replied(build::build(&[10, 10, 10, 10], 1, 3, 2, out));
+    report(what, refusal, got.refusal);
+    report(b"  words", words, got.words);
+}
+
+fn lengths() {
+    let mut eight = [OLD; 8];
+    lent(b"eight words lent for nine", &mut eight, 6, 0);
+    report(b"  the first word", OLD, eight[0]);
+    report(b"  the last word", OLD, eight[7]);
+    lent(b"no word lent", &mut [], 6, 0);
+    let mut nine = [OLD; 9];
+    lent(b"nine words lent", &mut nine, 0, 9);
+    report(b"  the first word", 4, nine[0]);
+    report(b"  the last word", 0xC0000000, nine[8]);
+    let mut twelve = [OLD; 12];
+    lent(b"twelve words lent", &mut twelve, 0, 9);
+    report(b"  word 8", 0xC0000000, twelve[8]);
+    report(b"  word 9", OLD, twelve[9]);
+    report(b"  word 11", OLD, twelve[11]);
+}
+
+fn widest() {
+    widths(
+        b"4, 12, 6: width 3 fits again",
+        &[4, 12, 6],
+        2,
+        2,
+        1,
+        0,
+        [1, 2, 0, 0, 0, 0, 0, 0],
+    );
+    widths(
+        b"1, 1, 3, 1: doubling and halving would take width 4",
+        &[1, 1, 3, 1],
+        2,
+        2,
+        1,
+        0,
+        [2, 2, 0, 0, 0, 0, 0, 0],
+    );
+    let tens = [10u32; 7673];
+    widths(
+        b"511 equal entries",
+        &tens[..511],
+        1,
+        2,
+        1,
+        0,
+        [511, 0, 0, 0, 0, 0, 0, 0],
+    );
+    widths(
+        b"512 equal entries",
+        &tens[..512],
+        1,
+        2,
+        1,
+        0,
+        [512, 0, 0, 0, 0, 0, 0, 0],
+    );
+    widths(
+        b"7,673 equal entries",
+        &tens,
+        1,
+        2,
+        1,
+        0,
+        [4095, 511, 511, 511, 511, 511, 511, 511],
+    );
+    widths(
+        b"7,673 equal entries, the last bucket",
+        &tens,
+        1,
+        2,
+        1,
+        1,
+        [1, 0, 0, 0, 0, 0, 0, 0],
+    );
+    let mut narrow = [5000u32; 4103];
+    narrow[0] = 1;
+    narrow[1] = 100;
+    narrow[2] = 1;
+    narrow[3] = 100;
+    narrow[4] = 1;
+    narrow[5] = 100;
+    narrow[6] = 1;
+    widths(
+        b"seven narrow bucketlets and a wide one",
+        &narrow,
+        1,
+        5,
+        4,
+        0,
+        [1, 1, 1, 1, 1, 1, 1, 4095],
+    );
+    widths(
+        b"and what is left",
+        &narrow,
+        1,
+        5,
+        4,
+        1,
+        [1, 0, 0, 0, 0, 0, 0, 0],
+    );
+}
+
+// The free bucketlet is the eighth up to a width of 511, and the first above.
+fn flags() {
+    let tens = [10u32; 512];
+    let mut words = [OLD; 9];
+    report(
+        b"511 equal entries",
+        0,
+        replied(build::build(&tens[..511], 1, 2, 1, &mut words)).refusal,
+    );
+    report(b"  word 4", 0x400003FF, words[4]);
+    report(
+        b"512 equal entries",
+        0,
+        replied(build::build(&tens, 1, 2, 1, &mut words)).refusal,
+    );
+    report(b"  word 4", 0x40000000, words[4]);
+}
+
+fn main() {
+    examples();
+    limits();
+    lengths();
+    widest();
+    flags();
+}

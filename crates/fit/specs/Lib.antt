@@ -1,0 +1,4 @@
+pub mod Fit
+pub mod Frequencies
+pub mod Accepted
+pub mod Worked

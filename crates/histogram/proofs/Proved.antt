@@ -1,0 +1,33 @@
+-- The claims of specs/Claims.antt, each from its law. Assumes nothing.
+use mathlib.Core.Path.{_≡_, refl}
+use mathlib.Core.List.{List}
+use Prim.Native.Nat.{ℕ}
+use native.Mathlib.Omega.{arith}
+use Rattle.laws.specs.Refusal.{refusal, numbered}
+use Rattle.laws.proofs.RefusalLaws.{append-first}
+use Rattle.fit.specs.Frequencies.{listing}
+use Rattle.histogram.specs.Building.{quality, parameters, inputs}
+use Rattle.histogram.specs.Claims.{Widths, Built, Building}
+use Rattle.histogram.proofs.SoundLaws.{sound-of}
+use Rattle.histogram.proofs.WidthLaws.{one-fits, width-largest}
+use Rattle.histogram.proofs.ReadBack.{buckets-are, bucket-is, readable-words, few}
+use Rattle.histogram.proofs.AcceptedLaws.{accepted-words}
+
+pub widths : Widths
+widths = record { width-largest = width-largest }
+
+pub building : Building
+unfolding numbered
+building = record { built = built }
+  where
+    built : (fs : List ℕ) (theta qn qd : ℕ) → refusal (inputs fs theta qn qd) ≡ 0 → Built fs theta qn qd
+    built fs theta qn qd e =
+        let q = quality theta qn qd in
+        let s = sound-of fs theta qn qd e in
+        record {
+          one-fits = one-fits q fs s;
+          readable = readable-words q fs s;
+          few = few q fs s;
+          decoded = λ b h. bucket-is q fs s b (let n = buckets-are q fs s in omega arith);
+          accepted = accepted-words q fs s (append-first (listing fs) (parameters theta qn qd) refl e);
+        }

@@ -1,0 +1,244 @@
+-- The words of the definition are a readable list, and what is read of them are its buckets.
+-- Assumes nothing.
+use mathlib.Core.Path.{_≡_, refl, sym, ap, _∙_}
+use mathlib.Core.Bool.{Bool, true, false, not}
+use mathlib.Core.List.{List, [], _∷_, _++_}
+use mathlib.Core.Logic.{⊎-elim}
+use Prim.Native.Nat.{ℕ, zero, suc, _+_, _-_, _*_, _^_, _≤_, _<_}
+use native.Mathlib.Nat.{eq-or-lt-of-le}
+use native.Mathlib.Numerals.{add-one}
+use native.Mathlib.Omega.{arith}
+use borrow.Author.Tests.{eq-eqb}
+use lib.ListN.{length, getD, take, drop}
+use lib.Seq.{getD-at}
+use Rattle.laws.specs.Each.{some}
+use Rattle.laws.specs.Field.{put}
+use Rattle.laws.specs.Sums.{sum}
+use Rattle.laws.proofs.Tests.{neither, not-fails}
+use Rattle.laws.proofs.EachLaws.{some-none}
+use Rattle.laws.proofs.SumsLaws.{sum-append}
+use Rattle.coding.specs.Total.{validCode}
+use Rattle.layout.specs.declared.Bucket.{Bucket}
+use Rattle.layout.specs.Limits.{maxWidth}
+use Rattle.layout.specs.Words.{place, entries, theta, qn, qd, buckets, headOf, fiveWords, startIn, flagIn, listedIn, start, end, span}
+use Rattle.layout.specs.Decoded.{withFree, decode, encode, bucketAt}
+use Rattle.layout.specs.Reading.{headGood, lengthFault, wordsBroken, wordFault, widthFault, classBroken, codesBroken, codeFault, Readable}
+use Rattle.layout.specs.Claims.{InRange}
+use Rattle.layout.proofs.DecodedLaws.{decode-encode, encoded}
+use Rattle.layout.proofs.HeadLaws.{is-within, is-good-q, by-buckets, no-head-fault}
+use Rattle.layout.proofs.StartLaws.{Starts, end-next, end-last, no-start-fault}
+use Rattle.layout.proofs.CodeLaws.{Room, no-width-fault, no-class-fault}
+use Rattle.layout.proofs.EntryLaws.{part-five}
+use Rattle.layout.proofs.ReadingLaws.{readable}
+use Rattle.fit.specs.declared.Quality.{Quality}
+use Rattle.histogram.specs.Sound.{Sound}
+use Rattle.histogram.specs.Bucket.{bucketWidths, classesFrom, bucketFrom}
+use Rattle.histogram.specs.Words.{startFrom, stretch, bucketWordsOf, words}
+use Rattle.histogram.proofs.BucketLaws.{sum-some}
+use Rattle.histogram.proofs.WordsLaws.{words-length}
+use Rattle.histogram.proofs.StretchLaws.{Laid, laid}
+use Rattle.histogram.proofs.RangeLaws.{width-narrow, class-good, total-valid, in-range}
+
+-- where the next bucket starts
+start-next : (q : Quality) (fs : List ℕ) (end a k : ℕ)
+    → startFrom q fs end a (suc k) ≡ startFrom q fs end a k + sum (bucketWidths q fs end (startFrom q fs end a k))
+unfolding startFrom
+start-next q fs end a zero = refl
+start-next q fs end a (suc k) = start-next q fs end (a + sum (bucketWidths q fs end a)) k
+
+-- the widths of a bucket are the free one and the listed ones
+free-sum : (flag : Bool) (free : ℕ) (listed : List ℕ) → sum (withFree flag free listed) ≡ free + sum listed
+free-sum true free listed = sum-append listed (free ∷ []) ∙ (omega arith)
+free-sum false free listed = refl
+
+-- and it is one of the eight
+free-narrow : (flag : Bool) (free : ℕ) (listed widths : List ℕ) → length listed ≡ 7 → withFree flag free listed ≡ widths
+    → ((k : ℕ) → k < 8 → getD widths k 0 ≤ maxWidth) → free ≤ maxWidth
+free-narrow true free listed widths n e f =
+    omega (arith, f 7 (omega arith), ap (λ (l : List ℕ). getD l 7 0) e, getD-at listed free [] 0 7 n)
+free-narrow false free listed widths n e f = omega (arith, f 0 (omega arith), ap (λ (l : List ℕ). getD l 0 0) e)
+
+-- a span that the listed widths and the free one fill has room for the listed ones
+room-of : (span listed total sum-listed free a start : ℕ) → span ≡ total → listed ≡ sum-listed → start ≡ a → free ≡ a + total - start - sum-listed
+    → total ≡ free + sum-listed → free ≤ maxWidth → Room span listed
+room-of span listed total sum-listed free a start p r s f t n = record { inside = omega arith; left = omega arith }
+
+module _ (q : Quality) (fs : List ℕ) (sound : Sound fs q) where
+  abbrev d : ℕ
+  d = length fs
+
+  abbrev ws : List ℕ
+  ws = words q fs
+
+  -- the buckets, and where each starts
+  abbrev count : ℕ
+  count = length (stretch q fs d 0)
+
+  abbrev pub startOf : ℕ → ℕ
+  startOf b = startFrom q fs d 0 b
+
+  abbrev bucketOf : ℕ → Bucket
+  bucketOf b = bucketFrom q fs d (startOf b)
+
+  all : Laid q fs d sound (omega arith) 0 (stretch q fs d 0)
+  all = laid q fs d sound (omega arith) d 0 (omega arith) (omega arith)
+
+  words-are : ws ≡ (d ∷ q .theta ∷ (put (q .qn) 19 10 + put (q .qd) 9 0) ∷ count ∷ []) ++ bucketWordsOf (stretch q fs d 0)
+  unfolding words
+  words-are = refl
+
+  pub size : length ws ≡ 4 + 5 * count
+  unfolding words
+  size = let n = words-length (stretch q fs d 0) in omega arith
+
+  pub five-are : (b : ℕ) → b < count → fiveWords ws b ≡ encode (bucketOf b)
+  five-are b h =
+      sym (part-five ws b (omega (arith, size)))
+      ∙ ap (λ (l : List ℕ). take 5 (drop (place b 0) l)) words-are
+      ∙ ap (λ (n : ℕ). take 5 (drop n ((d ∷ q .theta ∷ (put (q .qn) 19 10 + put (q .qd) 9 0) ∷ count ∷ []) ++ bucketWordsOf (stretch q fs d 0)))) {x = place b 0} {y = suc (suc (suc (suc (5 * b))))} (omega arith)
+      ∙ all .words b h
+
+  -- ---- the head
+
+  pub entries-are : entries ws ≡ d
+  unfolding words
+  entries-are = refl
+
+  pub theta-is : theta ws ≡ q .theta
+  unfolding words
+  theta-is = refl
+
+  pub buckets-are : buckets ws ≡ count
+  unfolding words
+  buckets-are = refl
+
+  pub qn-is : qn ws ≡ q .qn
+  unfolding words
+  qn-is = omega (arith, sound .qn-small, sound .qd-small)
+
+  pub qd-is : qd ws ≡ q .qd
+  unfolding words
+  qd-is = omega (arith, sound .qn-small, sound .qd-small)
+
+  q-small : getD ws 2 0 < 2 ^ 20
+  unfolding words
+  q-small = omega (arith, sound .qn-small, sound .qd-small)
+
+  -- ---- the buckets
+
+  start-below : (b : ℕ) → b < count → startOf b < d
+  start-below b h = all .starts b h
+
+  pub start-step : (b : ℕ) → startOf (suc b) ≡ startOf b + sum (bucketWidths q fs d (startOf b))
+  start-step b = start-next q fs d 0 b
+
+  range : (b : ℕ) → b < count → InRange (bucketOf b) (startOf b + sum (bucketWidths q fs d (startOf b)))
+  range b h = in-range q fs d (startOf b) sound (omega arith) (omega (arith, start-below b h)) (start-below b h)
+
+  decoded-words : (b : ℕ) → b < count → decode (encode (bucketOf b)) (startOf b + sum (bucketWidths q fs d (startOf b))) ≡ bucketOf b
+  decoded-words b h = decode-encode (bucketOf b) (startOf b + sum (bucketWidths q fs d (startOf b))) (range b h)
+
+  start-in : (b : ℕ) → b < count → startIn (encode (bucketOf b)) ≡ startOf b
+  unfolding decode bucketFrom
+  start-in b h = ap (λ (r : Bucket). r .start) (decoded-words b h)
+
+  pub start-is : (b : ℕ) → b < count → start ws b ≡ startOf b
+  start-is b h = ap startIn (five-are b h) ∙ start-in b h
+
+  pub end-is : (b : ℕ) → b < count → end ws b ≡ startOf (suc b)
+  end-is b h =
+      let n = buckets-are in
+      ⊎-elim
+      (λ (e : suc b ≡ count). end-last ws b (omega arith) ∙ entries-are ∙ sym (ap startOf e ∙ all .ends))
+      (λ (l : suc b < count). end-next ws b (omega arith) ∙ ap (start ws) (add-one b) ∙ start-is (suc b) l)
+      (eq-or-lt-of-le h)
+
+  pub bucket-is : (b : ℕ) → b < count → bucketAt ws b ≡ bucketOf b
+  bucket-is b h =
+      ap (λ (five : List ℕ). decode five (end ws b)) (five-are b h)
+      ∙ ap (decode (encode (bucketOf b))) (end-is b h ∙ start-step b)
+      ∙ decoded-words b h
+
+  pub span-is : (b : ℕ) → b < count → span ws b ≡ sum (bucketWidths q fs d (startOf b))
+  span-is b h = omega (arith, end-is b h, start-is b h, start-step b)
+
+  -- ---- no sentence 7 to 12 is true
+
+  -- the listed widths leave the free one of what the bucket spans
+  listed-room : (b : ℕ) → b < count → Room (span ws b) (sum (listedIn (fiveWords ws b)))
+  unfolding decode bucketFrom
+  listed-room b h =
+      let five = encode (bucketOf b) in
+      let a = startOf b in
+      let widths = bucketWidths q fs d a in
+      let free = a + sum widths - startIn five - sum (listedIn five) in
+      let e : withFree (flagIn five) free (listedIn five) ≡ widths = ap (λ (r : Bucket). r .widths) (decoded-words b h) in
+      room-of (span ws b) (sum (listedIn (fiveWords ws b))) (sum widths) (sum (listedIn five)) free a (startIn five)
+      (span-is b h) (ap (λ (f : List ℕ). sum (listedIn f)) (five-are b h)) (start-in b h) refl
+      (sym (ap sum e) ∙ free-sum (flagIn five) free (listedIn five))
+      (free-narrow (flagIn five) free (listedIn five) widths refl e (λ k g. width-narrow q fs d a k g))
+
+  codes-good : (b : ℕ) → b < count → codesBroken (bucketAt ws b) ≡ false
+  unfolding codesBroken bucketFrom
+  codes-good b h =
+      let a = startOf b in
+      let below = start-below b h in
+      ap codesBroken (bucket-is b h)
+      ∙ neither (some 8 (λ k. classBroken (getD (bucketWidths q fs d a) k 0) (getD (classesFrom fs a (bucketWidths q fs d a)) k 0))) (not (validCode (bucketOf b .total)))
+      (some-none 8 _ (λ k g. no-class-fault _ _ (class-good q fs d a sound (omega arith) (omega arith) k g)))
+      (not-fails _ (total-valid q fs d a sound (omega arith) (omega arith) below))
+
+  zero-start : startOf 0 ≡ 0
+  unfolding startFrom
+  zero-start = refl
+
+  some-buckets : 1 ≤ count
+  unfolding startFrom
+  some-buckets = go count (all .ends)
+    where
+      go : (n : ℕ) → startOf n ≡ d → 1 ≤ n
+      go zero e = omega (arith, sound .some)
+      go (suc n) e = omega arith
+
+  head-good : headGood (headOf ws) ≡ true
+  head-good =
+      by-buckets (headOf ws)
+      (rw entries-are (is-within 1 65536 d (record { least = sound .some; most = sound .many })))
+      (rw theta-is (is-within 1 1048575 (q .theta) (record { least = sound .theta-some; most = sound .theta-small })))
+      (rw (qn-is, qd-is)
+      (is-good-q (q .qn) (q .qd)
+      (record {
+        num = record { least = omega (arith, sound .factor, sound .qd-some); most = sound .qn-small };
+        den = record { least = sound .qd-some; most = sound .qd-small };
+        least = sound .factor;
+      })))
+      ∙ rw (entries-are, buckets-are) (is-within 1 d count (record { least = some-buckets; most = omega (arith, all .few, sound .some) }))
+
+  starts-are : Starts ws
+  starts-are =
+      let n = buckets-are in
+      record {
+        first = start-is 0 some-buckets ∙ zero-start;
+        rise = λ b h. rw (start-is b (omega arith), ap (start ws) (add-one b) ∙ start-is (suc b) (omega arith)) (rises b (omega arith));
+        below = λ b h. rw (start-is b (omega arith), entries-are) (start-below b (omega arith));
+      }
+    where
+      rises : (b : ℕ) → b < count → startOf b < startOf (suc b)
+      rises b h = omega (arith, start-step b, sum-some q fs d (startOf b) sound (omega arith) (start-below b h))
+
+  pub readable-words : Readable ws
+  unfolding lengthFault wordFault widthFault codeFault
+  readable-words =
+      let n = buckets-are in
+      readable ws
+      (record {
+        head = no-head-fault ws (record { words = omega (arith, size); q-bits = q-small; head = head-good });
+        size = ap not (eq-eqb (length ws) (4 + 5 * buckets ws) (size ∙ ap (λ (b : ℕ). 4 + 5 * b) (sym n)));
+        words = some-none (buckets ws) _ (λ b h. ap wordsBroken (five-are b (omega arith)) ∙ encoded (bucketOf b));
+        starts = no-start-fault ws starts-are;
+        widths = some-none (buckets ws) _ (λ b h. no-width-fault _ _ (listed-room b (omega arith)));
+        codes = some-none (buckets ws) _ (λ b h. codes-good b (omega arith));
+      })
+
+  pub few : 8 * buckets ws ≤ d + 7
+  few = omega (arith, all .few, buckets-are)

@@ -1,0 +1,44 @@
+-- A list and a quality of which no sentence 1 to 5 is true are sound.
+-- Assumes nothing.
+use mathlib.Core.Path.{_≡_, refl}
+use mathlib.Core.Bool.{false}
+use mathlib.Core.List.{List}
+use Prim.Native.Nat.{ℕ, _<_}
+use native.Mathlib.Omega.{arith}
+use borrow.Author.Tests.{ltb-false, eqb-false, not-false}
+use lib.Dec.{eqb}
+use lib.ListN.{length, getD}
+use Rattle.laws.specs.Each.{some}
+use Rattle.laws.specs.Refusal.{refusal, numbered}
+use Rattle.laws.specs.Sums.{sum}
+use Rattle.laws.proofs.EachLaws.{none-at}
+use Rattle.laws.proofs.RefusalLaws.{none-true}
+use Rattle.coding.specs.Base.{limit}
+use Rattle.layout.proofs.HeadLaws.{within, good-q}
+use Rattle.layout.specs.Limits.{maxEntries, maxTheta}
+use Rattle.fit.specs.Frequencies.{lengthFault, zeroFault, sumFault}
+use Rattle.histogram.specs.Sound.{Sound}
+use Rattle.histogram.specs.Building.{quality, inputs}
+
+pub sound-of : (fs : List ℕ) (theta qn qd : ℕ) → refusal (inputs fs theta qn qd) ≡ 0 → Sound fs (quality theta qn qd)
+unfolding numbered lengthFault zeroFault sumFault
+sound-of fs theta qn qd e =
+    let n = none-true (inputs fs theta qn qd) refl e in
+    let l = within 1 maxEntries (length fs) (not-false _ (n .0)) in
+    let t = within 1 maxTheta theta (not-false _ (n .1 .1 .1 .0)) in
+    let f = good-q qn qd (not-false _ (n .1 .1 .1 .1 .0)) in
+    record {
+      some = l .least;
+      many = l .most;
+      positive = λ i h. positive i (none-at (length fs) (λ i. eqb (getD fs i 0) 0) (n .1 .0) i h);
+      total = ltb-false limit (sum fs) (n .1 .1 .0);
+      theta-some = t .least;
+      theta-small = t .most;
+      qn-small = f .num .most;
+      qd-some = f .den .least;
+      qd-small = f .den .most;
+      factor = f .least;
+    }
+  where
+    positive : (i : ℕ) → eqb (getD fs i 0) 0 ≡ false → 0 < getD fs i 0
+    positive i t = let z = eqb-false (getD fs i 0) 0 t in omega arith

@@ -1,0 +1,1 @@
+// What the builder writes: the definitions, and what is proved of them. There is no code.
