@@ -2,7 +2,9 @@
 -- Assumes nothing.
 use Rattle.coding.specs.Worked as coding
 use Rattle.histogram.specs.Worked as histogram
+use Rattle.estimate.specs.Worked as estimate
 
 pub record Starred : Type 0 where
   pub codings : coding.Worked
   pub histograms : histogram.Worked
+  pub estimates : estimate.Worked

@@ -1,0 +1,57 @@
+-- What acceptance says (document 01, "What fits"): the list is readable, each bucketlet that is not empty fits, and each total is near its count.
+-- Assumes nothing.
+use mathlib.Core.Path.{_≡_, refl, sym, _∙_}
+use mathlib.Core.Bool.{true}
+use mathlib.Core.List.{List, [], _∷_, _++_}
+use Prim.Native.Nat.{ℕ, _<_}
+use native.Mathlib.Omega.{arith}
+use borrow.Author.Tests.{eqb-true, ne-eqb}
+use lib.Dec.{eqb}
+use lib.ListN.{getD}
+use Rattle.laws.specs.Each.{each}
+use Rattle.laws.specs.Refusal.{numbered}
+use Rattle.laws.specs.Sums.{partSum}
+use Rattle.laws.proofs.EachLaws.{each-at}
+use Rattle.laws.proofs.RefusalLaws.{append-first, append-passed}
+use Rattle.laws.proofs.Tests.{both-left, both-right, holds-other}
+use Rattle.coding.specs.Base.{base}
+use Rattle.coding.specs.Class.{classNumber}
+use Rattle.coding.specs.Total.{totalNumber}
+use Rattle.layout.specs.Words.{buckets, start, span}
+use Rattle.layout.specs.Decoded.{bucketAt, classAt, bucketletStart}
+use Rattle.layout.specs.Reading.{reading, Readable}
+use Rattle.fit.specs.Fit.{bucketletFits}
+use Rattle.fit.specs.Frequencies.{listing}
+use Rattle.fit.specs.Accepted.{mismatch, checkFault, qualityOf, bucketletGood, bucketGood, accepted}
+use Rattle.fit.proofs.FitLaws.{Near, near-says}
+
+pub record Fitting (fs ws : List ℕ) : Type 0 where
+  pub readable : Readable ws
+  pub bucketlets : (b j : ℕ) → b < buckets ws → j < 8 → 0 < getD (bucketAt ws b .widths) j 0
+      → bucketletFits (qualityOf ws) fs (bucketletStart (bucketAt ws b) j) (getD (bucketAt ws b .widths) j 0) (classNumber base (classAt (bucketAt ws b) j)) ≡ true
+  pub totals : (b : ℕ) → b < buckets ws → Near (qualityOf ws) (partSum (start ws b) (span ws b) fs) (totalNumber (bucketAt ws b .total)) 1
+
+module _ (fs ws : List ℕ) (t : accepted fs ws ≡ true) where
+  no-fault : checkFault fs ws ≡ 0
+  unfolding accepted
+  no-fault = eqb-true (checkFault fs ws) 0 (both-left (eqb (checkFault fs ws) 0) _ t)
+
+  read : Readable ws
+  unfolding numbered
+  read =
+      let first = append-first (listing fs ++ reading ws) (record { number = 13; holds = mismatch fs ws } ∷ []) refl no-fault in
+      sym (append-passed (listing fs) (reading ws) refl (append-first (listing fs) (reading ws) refl first)) ∙ first
+
+  bucket-good : (b : ℕ) → b < buckets ws → bucketGood (qualityOf ws) fs ws b ≡ true
+  unfolding accepted
+  bucket-good b h = each-at (buckets ws) (bucketGood (qualityOf ws) fs ws) (both-right (eqb (checkFault fs ws) 0) _ t) b h
+
+  pub fitting : Fitting fs ws
+  fitting =
+      record {
+        readable = read;
+        bucketlets = λ b j h l p.
+            let good = each-at 8 (bucketletGood (qualityOf ws) fs (bucketAt ws b)) (both-left (each 8 (bucketletGood (qualityOf ws) fs (bucketAt ws b))) _ (bucket-good b h)) j l in
+            holds-other (eqb (getD (bucketAt ws b .widths) j 0) 0) _ good (ne-eqb (getD (bucketAt ws b .widths) j 0) 0 (λ z. omega arith));
+        totals = λ b h. near-says (qualityOf ws) _ _ 1 (both-right (each 8 (bucketletGood (qualityOf ws) fs (bucketAt ws b))) _ (bucket-good b h));
+      }

@@ -1,0 +1,10 @@
+pub mod Computed
+pub mod Parts
+pub mod Split
+pub mod Ranges
+pub mod Pieces
+pub mod AcceptedLaws
+pub mod Estimate
+pub mod Uncut
+pub mod OneBucketlet
+pub mod Proved

@@ -1,0 +1,73 @@
+-- The claims of specs/Claims.antt, from the laws beside this file. Assumes nothing.
+use mathlib.Core.Path.{_≡_, ap, subst, sym}
+use mathlib.Core.List.{List}
+use mathlib.Core.Logic.{_⊎_, inl, inr}
+use Prim.Native.Nat.{ℕ, _-_, _*_, _≤_, _<_}
+use native.Mathlib.Omega.{arith}
+use lib.ListN.{length}
+use Rattle.laws.specs.Refusal.{refusal}
+use Rattle.laws.specs.Reply.{Reply}
+use Rattle.layout.specs.Words.{entries, theta, qn, qd}
+use Rattle.layout.proofs.Proved.{histogram}
+use Rattle.fit.specs.Accepted.{accepted}
+use Rattle.histogram.specs.Words.{words}
+use Rattle.histogram.specs.Building.{quality, inputs}
+use Rattle.histogram.proofs.SoundLaws.{sound-of}
+use Rattle.histogram.proofs.ReadBack.{entries-are, theta-is, qn-is, qd-is}
+use Rattle.histogram.proofs.Proved.{building}
+use Rattle.estimate.specs.Fraction.{rounded}
+use Rattle.estimate.specs.Exact.{exact}
+use Rattle.estimate.specs.Asking.{estimate}
+use Rattle.estimate.proofs.AskingLaws.{reply-is}
+use Rattle.accuracy.specs.Claims.{count, answer, Within, Accurate, Accuracy}
+use Rattle.accuracy.proofs.Split.{Split, split-within}
+use Rattle.accuracy.proofs.AcceptedLaws.{Fitting, fitting}
+use Rattle.accuracy.proofs.Estimate.{range-split, bucketlet-split}
+use Rattle.accuracy.proofs.OneBucketlet.{ends-in-list, one-split}
+use Rattle.accuracy.proofs.Uncut.{uncut-within}
+
+-- one of two facts, each as another follows from it
+either : {A B C D : Type 0} → A ⊎ B → (A → C) → (B → D) → C ⊎ D
+either (inl a) f g = inl (f a)
+either (inr b) f g = inr (g b)
+
+module _ (fs ws : List ℕ) (ok : Fitting fs ws) where
+  answer-is : (x y : ℕ) → x ≤ y → y ≤ entries ws → answer ws x y ≡ rounded (exact ws x y)
+  unfolding estimate
+  answer-is x y h l = ap (λ (r : Reply). r .value) (reply-is ws x y (ok .readable) h l)
+
+  -- the lemma, for the histogram's own theta and q
+  within : (m x y k : ℕ) → x ≤ y → y ≤ entries ws → Split (qn ws) (qd ws) (theta ws) m (count fs x y) (exact ws x y) → m < k
+      → (k * theta ws < count fs x y) ⊎ (k * theta ws < answer ws x y) → Within (qn ws * k) (qd ws * (k - m)) (count fs x y) (answer ws x y)
+  within m x y k h l s g r =
+      let limits = histogram .limits ws (ok .readable) in
+      let e = answer-is x y h l in
+      subst (λ (n : ℕ). Within (qn ws * k) (qd ws * (k - m)) (count fs x y) n) (sym e)
+      (split-within s k (limits .least-qd) (omega (arith, limits .least-q)) g (either r (λ f. f) (λ f. omega arith)))
+
+  pub accurate : Accurate fs ws (entries ws) (theta ws) (qn ws) (qd ws)
+  accurate =
+      record {
+        answered = λ x y h l. ap (λ (r : Reply). r .refusal) (reply-is ws x y (ok .readable) h l);
+        accurate = λ x y k h l g r.
+            let s = range-split fs ws ok x y h 1 1 (bucketlet-split fs ws ok x y h) l in
+            let w = within 2 x y k h l s g (either r (λ f. omega arith) (λ f. omega arith)) in
+            record { count-within = omega (arith, w .count-within); answer-within = omega (arith, w .answer-within) };
+        one-bucketlet = λ b j x y h l from g to r.
+            let inside = ends-in-list fs ws ok x y g b j h l from to in
+            let e = answer-is x y g inside in
+            let s = one-split fs ws ok x y g b j h l from to (either r (λ f. omega arith) (λ f. omega arith)) in
+            let w = within 0 x y 1 g inside s (omega arith) (either r (λ f. omega arith) (λ f. omega arith)) in
+            record { count-within = omega (arith, w .count-within); answer-within = omega (arith, w .answer-within) };
+        whole = λ x y h l from to. rw (answer-is x y h l) (uncut-within fs ws ok x y h from to l);
+      }
+
+pub accuracy : Accuracy
+accuracy = record { of-accepted = λ fs ws t. accurate fs ws (fitting fs ws t); of-built = built }
+  where
+    built : (fs : List ℕ) (theta qn qd : ℕ) → refusal (inputs fs theta qn qd) ≡ 0 → Accurate fs (words (quality theta qn qd) fs) (length fs) theta qn qd
+    built fs theta qn qd e =
+        let q = quality theta qn qd in
+        let s = sound-of fs theta qn qd e in
+        let a = accurate fs (words q fs) (fitting fs (words q fs) (building .built fs theta qn qd e .accepted)) in
+        rw (entries-are q fs s, theta-is q fs s, qn-is q fs s, qd-is q fs s) at a

@@ -1,0 +1,93 @@
+-- A range over spans that follow one another: its count is the sum of what it holds of each. So what splits on two spans (Split.antt) splits on
+-- both together, with as many excused as the ends that cut. Assumes nothing.
+use mathlib.Core.Path.{_≡_, ap, subst, sym, _∙_}
+use mathlib.Core.List.{List}
+use Prim.Native.Nat.{ℕ, _+_, _-_, _*_, _≤_, _<_, min, max}
+use native.Mathlib.Nat.{mul-le-mul-left, sub-eq-zero-of-le}
+use native.Mathlib.Omega.{arith}
+use Rattle.laws.specs.Sums.{partSum}
+use Rattle.laws.proofs.SumsLaws.{part-add}
+use Rattle.estimate.specs.declared.Fraction.{Fraction}
+use Rattle.estimate.specs.Fraction.{nothing, plus}
+use Rattle.estimate.specs.Exact.{overlap}
+use Rattle.estimate.proofs.CutLaws.{cuts, cuts-join}
+use Rattle.estimate.proofs.SpanLaws.{Joined}
+use Rattle.accuracy.proofs.Split.{Split, split-nothing, split-more, split-add}
+
+-- the place of the range that is nearest to t
+unfoldable pub nearest : ℕ → ℕ → ℕ → ℕ
+nearest x y t = max x (min y t)
+
+nearest-rises : (x y t u : ℕ) → t ≤ u → nearest x y t ≤ nearest x y u
+unfolding nearest
+nearest-rises x y t u h = omega arith
+
+-- what the range from x to y counts in the span from a to e
+abbrev pub countIn : List ℕ → ℕ → ℕ → ℕ → ℕ → ℕ
+countIn fs x y a e = partSum (nearest x y a) (nearest x y e - nearest x y a) fs
+
+count-join : (fs : List ℕ) (x y a b e : ℕ) → a ≤ b → b ≤ e → countIn fs x y a b + countIn fs x y b e ≡ countIn fs x y a e
+count-join fs x y a b e h k =
+    let up = nearest-rises x y a b h in
+    let next = nearest-rises x y b e k in
+    let i = nearest x y a in
+    let n = nearest x y b - i in
+    let p : i + n ≡ nearest x y b = omega arith in
+    let q : n + (nearest x y e - nearest x y b) ≡ nearest x y e - i = omega arith in
+    ap (λ (j : ℕ). partSum i n fs + partSum j (nearest x y e - nearest x y b) fs) (sym p)
+    ∙ sym (part-add i n (nearest x y e - nearest x y b) fs)
+    ∙ ap (λ (l : ℕ). partSum i l fs) q
+
+-- where the range and the span have no entry in common, and where they have some
+module _ (x y a e : ℕ) (ordered : x ≤ y) where
+  nearest-none : overlap x y a e ≡ 0 → nearest x y e - nearest x y a ≡ 0
+  unfolding nearest
+  nearest-none z = sub-eq-zero-of-le (most (min y e) (omega arith) (omega arith))
+    where
+      most : (m : ℕ) → m ≤ y → m ≤ max x a → max x m ≤ max x (min y a)
+      most m h k = omega arith
+
+  nearest-start : 0 < overlap x y a e → nearest x y a ≡ max x a
+  unfolding nearest
+  nearest-start p = omega arith
+
+  nearest-end : 0 < overlap x y a e → nearest x y e ≡ min y e
+  unfolding nearest
+  nearest-end p = omega arith
+
+module _ (fs : List ℕ) (x y a e : ℕ) (ordered : x ≤ y) where
+  pub count-none : overlap x y a e ≡ 0 → countIn fs x y a e ≡ 0
+  count-none z = ap (λ (n : ℕ). partSum (nearest x y a) n fs) (nearest-none x y a e ordered z)
+
+  pub count-some : 0 < overlap x y a e → countIn fs x y a e ≡ partSum (max x a) (overlap x y a e) fs
+  count-some p =
+      ap (λ (i : ℕ). partSum i (nearest x y e - i) fs) (nearest-start x y a e ordered p)
+      ∙ ap (λ (j : ℕ). partSum (max x a) (j - max x a) fs) (nearest-end x y a e ordered p)
+
+-- a span that holds the whole range
+pub count-all : (fs : List ℕ) (x y a e : ℕ) → x ≤ y → a ≤ x → y ≤ e → countIn fs x y a e ≡ partSum x (y - x) fs
+unfolding nearest
+count-all fs x y a e g h k =
+    let from : nearest x y a ≡ x = omega arith in
+    let to : nearest x y e ≡ y = omega arith in
+    ap (λ (i : ℕ). partSum i (nearest x y e - i) fs) from ∙ ap (λ (j : ℕ). partSum x (j - x) fs) to
+
+module _ (pn pd theta u v : ℕ) (fs : List ℕ) (x y : ℕ) where
+  -- what is shown of a span from a to e and of the fraction that estimates what the range holds of it: u are excused where x cuts, v where y does
+  abbrev pub Spanned : ℕ → ℕ → Fraction → Type 0
+  Spanned a e s = Split pn pd theta (u * cuts x a e + v * cuts y a e) (countIn fs x y a e) s
+
+  spanned-none : (a : ℕ) → Spanned a a nothing
+  spanned-none a =
+      let z : 0 ≡ nearest x y a - nearest x y a = omega arith in
+      subst (λ (n : ℕ). Split pn pd theta (u * cuts x a a + v * cuts y a a) (partSum (nearest x y a) n fs) nothing) z
+      (split-more (split-nothing pn pd theta) (u * cuts x a a + v * cuts y a a) (omega arith))
+
+  spanned-join : (a b e : ℕ) (s t : Fraction) → a ≤ b → b ≤ e → Spanned a b s → Spanned b e t → Spanned a e (plus s t)
+  spanned-join a b e s t h k p q =
+      subst (λ (n : ℕ). Split pn pd theta (u * cuts x a e + v * cuts y a e) n (plus s t)) (count-join fs x y a b e h k)
+      (split-more (split-add p q) (u * cuts x a e + v * cuts y a e)
+      (omega (arith, mul-le-mul-left u (cuts-join x a b e h k), mul-le-mul-left v (cuts-join y a b e h k))))
+
+  pub spanned-joined : Joined Spanned
+  spanned-joined = record { none = spanned-none; join = spanned-join }

@@ -1,0 +1,64 @@
+-- A range that cuts no bucketlet: nothing is excused and nothing rounded, so count and estimate are within q. Assumes nothing.
+use mathlib.Core.Path.{_≡_, ap, subst, sym, _∙_}
+use mathlib.Core.Bool.{true, false}
+use mathlib.Core.List.{List}
+use mathlib.Core.Logic.{⊎-elim}
+use Prim.Native.Nat.{ℕ, _+_, _-_, _*_, _≤_, _<_}
+use native.Mathlib.Nat.{le-of-mul-le-mul-right}
+use native.Mathlib.Omega.{arith}
+use lib.ListN.{getD}
+use Rattle.laws.specs.Sums.{partSum}
+use Rattle.laws.proofs.Tests.{tested}
+use Rattle.coding.specs.Base.{base}
+use Rattle.coding.specs.Class.{classNumber}
+use Rattle.layout.specs.Words.{entries, theta, qn, qd, buckets, start, end}
+use Rattle.layout.specs.Decoded.{bucketAt, classAt, bucketletStart}
+use Rattle.fit.specs.Accepted.{qualityOf}
+use Rattle.estimate.specs.declared.Fraction.{Fraction}
+use Rattle.estimate.specs.Fraction.{rounded}
+use Rattle.estimate.specs.Exact.{inside, bucketletPiece, bucketPiece, exact}
+use Rattle.estimate.proofs.FractionLaws.{numerator, rounded-whole, sum-whole}
+use Rattle.estimate.proofs.ExactLaws.{bucket-whole, bucket-parts}
+use Rattle.estimate.proofs.CutLaws.{cuts, cuts-none}
+use Rattle.estimate.proofs.SpanLaws.{bucketlet-end}
+use Rattle.accuracy.specs.Claims.{CutsNone}
+use Rattle.accuracy.proofs.Parts.{Factor, factor-sure}
+use Rattle.accuracy.proofs.Split.{split-more}
+use Rattle.accuracy.proofs.Ranges.{Spanned}
+use Rattle.accuracy.proofs.Pieces.{bucketlet-whole}
+use Rattle.accuracy.proofs.AcceptedLaws.{Fitting}
+use Rattle.accuracy.proofs.Estimate.{BucketletSplit, range-split}
+
+module _ (fs ws : List ℕ) (ok : Fitting fs ws) (x y : ℕ) (ordered : x ≤ y) (from : CutsNone ws x) (to : CutsNone ws y) where
+  uncut : (b j : ℕ) → b < buckets ws → j < 8 → BucketletSplit fs ws ok x y ordered 0 0 b j × (bucketletPiece x y (bucketAt ws b) j .top ≡ 0)
+  uncut b j h l =
+      let r = bucketAt ws b in
+      let a = bucketletStart r j in
+      let w = getD (r .widths) j 0 in
+      let e = bucketlet-end r j in
+      let none : (z : ℕ) → CutsNone ws z → cuts z a (a + w) ≡ 0 = λ z c. cuts-none z a (a + w) (λ g. subst (λ (t : ℕ). t ≤ z) e (c b j h l g)) in
+      let p = bucketlet-whole (qualityOf ws) fs x y a w (classNumber base (classAt r j)) ordered (ok .bucketlets b j h l) (omega (arith, none x from, none y to)) in
+      (subst (λ (t : ℕ). Spanned (qn ws) (qd ws) (theta ws) 0 0 fs x y a t (bucketletPiece x y r j)) (sym e) (split-more (p .0) _ (omega arith)), p .1)
+
+  bucket-top : (b : ℕ) → b < buckets ws → bucketPiece ws x y b .top ≡ 0
+  bucket-top b h =
+      ⊎-elim
+      (λ (t : inside x y (start ws b) (end ws b) ≡ true). ap (λ (e : Fraction). e .top) (bucket-whole ws x y b t))
+      (λ (t : inside x y (start ws b) (end ws b) ≡ false).
+      ap (λ (e : Fraction). e .top) (bucket-parts ws x y b t) ∙ sum-whole 8 (bucketletPiece x y (bucketAt ws b)) (λ j l. uncut b j h l .1))
+      (tested (inside x y (start ws b) (end ws b)))
+
+  exact-top : exact ws x y .top ≡ 0
+  unfolding exact
+  exact-top = sum-whole (buckets ws) (bucketPiece ws x y) bucket-top
+
+  pub uncut-within : y ≤ entries ws
+      → (qd ws * partSum x (y - x) fs ≤ qn ws * rounded (exact ws x y)) × (qd ws * rounded (exact ws x y) ≤ qn ws * partSum x (y - x) fs)
+  uncut-within l =
+      let e = exact ws x y in
+      let s = range-split fs ws ok x y ordered 0 0 (λ b j h l. uncut b j h l .0) l in
+      let w : Factor (qn ws) (qd ws) (partSum x (y - x) fs * e .bottom) (numerator e) = factor-sure (s .parts) (omega arith) in
+      let v = rounded-whole e (s .positive) exact-top in (
+        le-of-mul-le-mul-right {k = e .bottom} (omega (arith, w .f-within, ap (λ (t : ℕ). qn ws * t) v)) (s .positive),
+        le-of-mul-le-mul-right {k = e .bottom} (omega (arith, w .v-within, ap (λ (t : ℕ). qd ws * t) v)) (s .positive),
+      )

@@ -1,0 +1,36 @@
+-- Accepted histograms that show what the factor needs, with q 5/4: a smaller factor, or a smaller multiple of theta, would not hold.
+-- Assumes nothing.
+use mathlib.Core.Path.{_≡_}
+use mathlib.Core.Bool.{true, false}
+use mathlib.Core.List.{List, [], _∷_}
+use Prim.Native.Nat.{ℕ, _-_, _*_}
+use lib.Dec.{leb, ltb}
+use Rattle.fit.specs.Accepted.{accepted}
+use Rattle.accuracy.specs.Claims.{count, answer}
+
+-- a number between two spikes, each in a bucketlet of 9 entries that stands for 93; theta is 98, which excuses a spike
+abbrev pub spikes : ℕ → List ℕ
+spikes n = 1 ∷ 1 ∷ 1 ∷ 1 ∷ 1 ∷ 1 ∷ 1 ∷ 1 ∷ 90 ∷ n ∷ 90 ∷ 1 ∷ 1 ∷ 1 ∷ 1 ∷ 1 ∷ 1 ∷ 1 ∷ 1 ∷ []
+
+-- 116 stands as 93
+abbrev pub large : List ℕ
+large = 19 ∷ 98 ∷ 0x1404 ∷ 1 ∷ 0x40000209 ∷ 0x8E38E000 ∷ 0x800009C2 ∷ 0xC0041200 ∷ 0xC0000000 ∷ []
+
+-- 17 stands as 17
+abbrev pub small : List ℕ
+small = 19 ∷ 98 ∷ 0x1404 ∷ 1 ∷ 0x40000209 ∷ 0x8E24E000 ∷ 0x80000D41 ∷ 0xC0041200 ∷ 0xC0000000 ∷ []
+
+-- 116 and 1 with theta 1, as 93 and 1
+abbrev pub alone : List ℕ
+alone = 2 ∷ 1 ∷ 0x1404 ∷ 1 ∷ 0x40000201 ∷ 0x8E040000 ∷ 0x80000EA0 ∷ 0xC0040000 ∷ 0xC0000000 ∷ []
+
+pub record Worked : Type 0 where
+  pub all-accepted : accepted (spikes 116) large ∷ accepted (spikes 17) small ∷ accepted (116 ∷ 1 ∷ []) alone ∷ [] ≡ true ∷ true ∷ true ∷ []
+  pub counts : count (spikes 116) 8 11 ∷ count (spikes 17) 8 11 ∷ count (116 ∷ 1 ∷ []) 0 1 ∷ [] ≡ 296 ∷ 197 ∷ 116 ∷ []
+  pub answers : answer large 8 11 ∷ answer small 8 11 ∷ answer alone 0 1 ∷ [] ≡ 114 ∷ 38 ∷ 93 ∷ []
+  -- k 3: 296 is above 3 theta; it is within q times k/(k - 2) of 114, and not within q times k/(k - 1)
+  pub two-cuts : ltb (3 * 98) 296 ∷ leb (4 * (3 - 2) * 296) (5 * 3 * 114) ∷ leb (4 * (3 - 1) * 296) (5 * 3 * 114) ∷ [] ≡ true ∷ true ∷ false ∷ []
+  -- k 3: 197 is above 2 theta and not above 3 theta; it is not within q times k/(k - 2) of 38
+  pub below-theta : ltb (2 * 98) 197 ∷ ltb (3 * 98) 197 ∷ leb (4 * (3 - 2) * 197) (5 * 3 * 38) ∷ [] ≡ true ∷ false ∷ false ∷ []
+  -- k 100: 116 is above 100 theta; it is within q times k/(k - 2) of 93, and not within k/(k - 2)
+  pub needs-q : ltb (100 * 1) 116 ∷ leb (4 * (100 - 2) * 116) (5 * 100 * 93) ∷ leb ((100 - 2) * 116) (100 * 93) ∷ [] ≡ true ∷ true ∷ false ∷ []

@@ -1,0 +1,5 @@
+pub mod Fraction
+pub mod Exact
+pub mod Asking
+pub mod Claims
+pub mod Worked
