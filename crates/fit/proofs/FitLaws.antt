@@ -2,14 +2,14 @@
 -- bucketlet's number and width alone.
 -- Assumes nothing.
 use mathlib.Core.Path.{_≡_, refl, ap}
-use mathlib.Core.Bool.{Bool, true, false, _&&_}
+use mathlib.Core.Bool.{Bool, true, false, _&&_, _||_}
 use mathlib.Core.Logic.{_⊎_, inl, inr, ⊎-elim}
 use Prim.Native.Nat.{ℕ, _*_, _≤_, _<_, max}
 use native.Mathlib.Nat.{le-of-mul-le-mul-left, mul-le-mul-left, mul-le-mul-right}
 use native.Mathlib.Omega.{arith}
 use borrow.Author.Tests.{leb-true, leb-false, le-leb}
 use lib.Dec.{leb}
-use Rattle.laws.proofs.Tests.{both, both-left, both-right, either, holds-left, holds-right}
+use Rattle.laws.proofs.Tests.{both, both-left, both-right, either, holds-left, holds-right, is-false}
 use Rattle.fit.specs.declared.Quality.{Quality}
 use Rattle.fit.specs.Fit.{near, fits}
 
@@ -117,3 +117,10 @@ module _ (q : Quality) (pos : 0 < q .qd) (above : q .qd ≤ q .qn) where
             count = omega (arith, b .below l);
             estimate = omega (arith, b .above, ap (λ (m : ℕ). w * m) (heavy-cap f (omega arith)));
           })
+
+-- where the first half does not hold the second decides
+pub fits-near : (q : Quality) (f x w : ℕ) → (Small q f x w → ⊥) → fits q f x w ≡ near q f x w
+fits-near q f x w h =
+    ap (λ (t : Bool). t || near q f x w)
+    (is-false (leb f (q .theta) && leb x (q .theta * w))
+    (λ t. h (record { count = leb-true _ _ (both-left (leb f (q .theta)) _ t); estimate = leb-true _ _ (both-right (leb f (q .theta)) _ t) })))

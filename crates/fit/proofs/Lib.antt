@@ -1,2 +1,3 @@
 pub mod Computed
 pub mod FitLaws
+pub mod FaultLaws

@@ -1,0 +1,5 @@
+pub mod Computed
+pub mod FirstLaws
+pub mod RangeLaws
+pub mod CheckLaws
+pub mod Proved

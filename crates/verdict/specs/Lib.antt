@@ -1,0 +1,5 @@
+pub mod Reply
+pub mod Failing
+pub mod Checking
+pub mod Claims
+pub mod Worked

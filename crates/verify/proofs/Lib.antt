@@ -1,0 +1,4 @@
+pub mod ProductLaws
+pub mod SearchSteps
+pub mod HistogramLaws
+pub mod BucketSteps

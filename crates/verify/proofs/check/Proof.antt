@@ -1,0 +1,53 @@
+-- `verify::check` meets its contract: a fault is the refusal's number, and else what fails first is the answer.
+-- Assumes nothing.
+use mathlib.Core.Path.{_≡_, sym, ap, subst, _∙_}
+use native.Mathlib.Omega.{arith}
+use borrow.Author.Needs.{needs}
+use Rattle.layout.specs.Words.{buckets}
+use Rattle.fit.specs.declared.Quality.{Quality}
+use Rattle.fit.specs.Accepted.{checkFault}
+use Rattle.histogram.specs.Sound.{Sound}
+use Rattle.verdict.specs.declared.Verdict.the-variants.{Refused}
+use Rattle.verdict.specs.Reply.{verdictReply}
+use Rattle.verdict.specs.Failing.{firstFailing}
+use Rattle.verdict.specs.Checking.{bucketVerdict}
+use Rattle.verdict.proofs.CheckLaws.{refused-verdict, checked-verdict}
+use Rattle.verify.proofs.HistogramLaws.{sound}
+use Rattle.verify.proofs.check.Statement.{statement}
+use Rattle.verify.proofs.check.Tie as tie
+
+check-fault-requires : tie.Need-check-fault-requires
+check-fault-requires c κs = search needs
+
+returns : tie.Need-returns
+returns c =
+    let a = c .before .before .before .before .args in
+    let e = c .before .check-fault .ensures in
+    ap verdictReply (ap Refused e ∙ sym (refused-verdict (a .freqs .now) (a .words .now) (λ z. omega arith)))
+
+quality-of-requires : tie.Need-quality-of-requires
+quality-of-requires c κs = search needs
+
+-- there is no fault
+passed : (c : tie.Else1) → let a = c .before .before .before .before .args in checkFault (a .freqs .now) (a .words .now) ≡ 0
+passed c = let e = c .before .check-fault .ensures in omega arith
+
+buckets-verdict-requires : tie.Need-buckets-verdict-requires
+buckets-verdict-requires c κs =
+    let a = c .before .before .before .before .before .args in
+    let e = passed (c .before) in
+    record { no-fault = e; sound = subst (Sound (a .freqs .now)) (sym (c .quality-of .ensures)) (sound (a .freqs .now) (a .words .now) e) }
+
+returns-2 : tie.Need-returns-2
+returns-2 c =
+    let a = c .before .before .before .before .before .before .args in
+    let w = a .words .now in
+    ap verdictReply
+    (c .buckets-verdict .ensures
+    ∙ ap (λ (q : Quality). firstFailing (bucketVerdict q (a .freqs .now) w) (buckets w) 0) (c .before .quality-of .ensures)
+    ∙ sym (checked-verdict (a .freqs .now) w (passed (c .before .before))))
+
+pub check-spec : {M : Type 1} → statement M
+check-spec =
+    tie.close
+    (tie.spec check-fault-requires returns quality-of-requires buckets-verdict-requires returns-2)

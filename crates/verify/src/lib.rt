@@ -1,0 +1,40 @@
+// The checker: whether a histogram is accepted for a frequency list, and else what fails first.
+
+mod bucket;
+mod range;
+
+use bucket::bucket_verdict;
+use fit::Quality;
+use verdict::Verdict;
+ghost use mathlib.Core.Path.{_≡_};
+ghost use Rattle.layout.specs.Words.{buckets};
+ghost use Rattle.verdict.specs.Reply.{verdictReply};
+ghost use Rattle.verdict.specs.Failing.{firstFailing};
+ghost use Rattle.verdict.specs.Checking.{bucketVerdict, checkReply};
+ghost use Rattle.verify.specs.Searching.{Checkable};
+
+// What fails first of all buckets, in order.
+fn buckets_verdict(freqs: &[u32], words: &[u32], q: Quality) -> Verdict
+    requires { ⌜ Checkable (now freqs) (now words) q ⌝ }
+    ensures { λ r. ⌜ r ≡ firstFailing (bucketVerdict q (now (freqs .entry)) (now (words .entry))) (buckets (now (words .entry))) 0 ⌝ }
+{
+    let buckets = words::bucket_count(words) as usize;
+    for b in 0..buckets {
+        let answer = bucket_verdict(freqs, words, q, b);
+        let Verdict::Accepted = answer else {
+            return answer;
+        };
+    }
+    Verdict::Accepted
+}
+
+// Whether the histogram is accepted for the list, what fails first, or the number of the refusal.
+pub fn check(freqs: &[u32], words: &[u32]) -> Verdict
+    ensures { λ r. ⌜ verdictReply r ≡ checkReply (now (freqs .entry)) (now (words .entry)) ⌝ }
+{
+    let fault = matching::check_fault(freqs, words);
+    if fault != 0 {
+        return Verdict::Refused(fault);
+    }
+    buckets_verdict(freqs, words, matching::quality_of(words))
+}
