@@ -3,23 +3,48 @@
 use mathlib.Core.Path.{_≡_, refl, ap, _∙_}
 use mathlib.Core.Bool.{Bool, false, cond}
 use mathlib.Core.List.{List, [], _∷_}
-use Prim.Native.Nat.{ℕ, _≤_}
-use borrow.Author.Tests.{le-ltb, eq-eqb}
+use mathlib.Core.Logic.{_⊎_, ⊎-elim}
+use Prim.Native.Nat.{ℕ, _≤_, _<_}
+use borrow.Author.Tests.{le-ltb, lt-ltb, eq-eqb, ne-eqb}
 use lib.Dec.{ltb}
 use Rattle.laws.specs.Refusal.{numbered}
 use Rattle.laws.specs.Reply.{answered, refused}
-use Rattle.laws.proofs.Tests.{neither}
-use Rattle.laws.proofs.RefusalLaws.{none-left, passed, append-passed}
+use Rattle.laws.proofs.Tests.{neither, holds-left, holds-right}
+use Rattle.laws.proofs.RefusalLaws.{none-left, passed, append-passed, append-refused, append-first, refused as refused-at}
 use Rattle.layout.specs.Words.{entries}
-use Rattle.layout.specs.Reading.{reading, Readable}
+use Rattle.layout.specs.Reading.{reading, readFault, Readable}
 use Rattle.estimate.specs.Asking.{rangeFault, askFault, estimate, estimateReply}
+
+module _ (ws : List ℕ) (x y : ℕ) where
+  pub list-first : (readFault ws ≡ 0 → ⊥) → askFault ws x y ≡ readFault ws
+  unfolding numbered
+  list-first h = append-refused (reading ws) (record { number = 14; holds = rangeFault ws x y } ∷ []) refl h
+
+  pub range-refused : Readable ws → (y < x) ⊎ (entries ws < y) → askFault ws x y ≡ 14
+  unfolding numbered rangeFault
+  range-refused r h =
+      append-passed (reading ws) (record { number = 14; holds = rangeFault ws x y } ∷ []) refl r
+      ∙ refused-at (record { number = 14; holds = rangeFault ws x y }) []
+      (⊎-elim (λ (l : y < x). holds-left (ltb y x) (ltb (entries ws) y) (lt-ltb y x l)) (λ (l : entries ws < y). holds-right (ltb y x) (ltb (entries ws) y) (lt-ltb (entries ws) y l)) h)
+
+  pub asked-readable : askFault ws x y ≡ 0 → Readable ws
+  unfolding numbered
+  asked-readable e = append-first (reading ws) (record { number = 14; holds = rangeFault ws x y } ∷ []) refl e
+
+  pub reply-refused : (askFault ws x y ≡ 0 → ⊥) → estimateReply ws x y ≡ refused (askFault ws x y)
+  unfolding estimateReply
+  reply-refused h = ap (λ (t : Bool). cond t (answered (estimate ws x y)) (refused (askFault ws x y))) (ne-eqb (askFault ws x y) 0 h)
+
+  pub reply-answered : askFault ws x y ≡ 0 → estimateReply ws x y ≡ answered (estimate ws x y)
+  unfolding estimateReply
+  reply-answered e = ap (λ (t : Bool). cond t (answered (estimate ws x y)) (refused (askFault ws x y))) (eq-eqb (askFault ws x y) 0 e)
 
 module _ (ws : List ℕ) (x y : ℕ) (readable : Readable ws) (ordered : x ≤ y) (ends : y ≤ entries ws) where
   in-list : rangeFault ws x y ≡ false
   unfolding rangeFault
   in-list = neither (ltb y x) (ltb (entries ws) y) (le-ltb y x ordered) (le-ltb (entries ws) y ends)
 
-  no-fault : askFault ws x y ≡ 0
+  pub no-fault : askFault ws x y ≡ 0
   unfolding numbered
   no-fault =
       append-passed (reading ws) (record { number = 14; holds = rangeFault ws x y } ∷ []) refl readable
@@ -27,5 +52,4 @@ module _ (ws : List ℕ) (x y : ℕ) (readable : Readable ws) (ordered : x ≤ y
       ∙ none-left
 
   pub reply-is : estimateReply ws x y ≡ answered (estimate ws x y)
-  unfolding estimateReply
-  reply-is = ap (λ (t : Bool). cond t (answered (estimate ws x y)) (refused (askFault ws x y))) (eq-eqb (askFault ws x y) 0 no-fault)
+  reply-is = reply-answered ws x y no-fault

@@ -86,7 +86,7 @@ module _ (x y : ℕ) where
       met = overlap x y a (a + w)
 
 module _ (ws : List ℕ) (readable : Readable ws) (x y b : ℕ) (is : b < buckets ws) where
-  class-small : (j : ℕ) → j < 8 → classNumber base (classAt (bucketAt ws b) j) ≤ 2 ^ 31
+  pub class-small : (j : ℕ) → j < 8 → classNumber base (classAt (bucketAt ws b) j) ≤ 2 ^ 31
   unfolding classNumber
   class-small j l =
       let holds = histogram .holds ws readable b is in

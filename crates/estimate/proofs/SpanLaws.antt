@@ -52,7 +52,7 @@ edge-start ws b h = simp (lt-ltb b (buckets ws) h)
 pub edge-end : (ws : List ℕ) (b : ℕ) → edge ws (suc b) ≡ end ws b
 edge-end ws b = let e : suc b ≡ b + 1 = omega arith in ap (edge ws) e
 
-edge-last : (ws : List ℕ) → edge ws (buckets ws) ≡ entries ws
+pub edge-last : (ws : List ℕ) → edge ws (buckets ws) ≡ entries ws
 edge-last ws = simp (le-ltb (buckets ws) (buckets ws) (omega arith))
 
 pub edges-rise : (ws : List ℕ) → Readable ws → (b : ℕ) → b < buckets ws → edge ws b ≤ edge ws (suc b)

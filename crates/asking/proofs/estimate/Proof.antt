@@ -1,0 +1,39 @@
+-- `asking::estimate` meets its contract: the refusal, or the sum rounded up once.
+-- Assumes nothing.
+use mathlib.Core.Path.{sym, ap, _∙_}
+use native.Mathlib.Omega.{arith}
+use borrow.Author.Needs.{needs}
+use Rattle.laws.specs.Reply.{answered, refused}
+use Rattle.estimate.specs.Fraction.{rounded}
+use Rattle.estimate.specs.Asking.{estimate}
+use Rattle.estimate.proofs.AskingLaws.{asked-readable, reply-refused, reply-answered}
+use Rattle.asking.proofs.estimate.Statement.{statement}
+use Rattle.asking.proofs.estimate.Tie as tie
+
+ask-fault-requires : tie.Need-ask-fault-requires
+ask-fault-requires c κs = search needs
+
+returns : tie.Need-returns
+returns c =
+    let a = c .before .before .before .args in
+    let f = c .before .ask-fault .ensures in
+    ap refused f ∙ sym (reply-refused (a .words .now) (a .x) (a .y) (λ e. omega arith))
+
+exact-of-requires : tie.Need-exact-of-requires
+exact-of-requires c κs =
+    let a = c .before .before .before .args in
+    asked-readable (a .words .now) (a .x) (a .y) (omega (arith, c .before .ask-fault .ensures))
+
+rounded-of-requires : tie.Need-rounded-of-requires
+rounded-of-requires c κs = search needs
+
+returns-2 : tie.Need-returns-2
+unfolding estimate
+returns-2 c =
+    let a = c .before .before .before .before .before .args in
+    ap answered (c .rounded-of .ensures ∙ ap rounded (c .before .exact-of .ensures .0))
+    ∙ sym (reply-answered (a .words .now) (a .x) (a .y) (omega (arith, c .before .before .before .ask-fault .ensures)))
+
+pub estimate-spec : {M : Type 1} → statement M
+estimate-spec =
+    tie.close (tie.spec ask-fault-requires returns exact-of-requires rounded-of-requires returns-2)
