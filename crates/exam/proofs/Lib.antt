@@ -1,0 +1,6 @@
+pub mod Computed
+pub mod InputLaws
+pub mod TextLaws
+pub mod LinesLaws
+pub mod SheetLaws
+pub mod Proved
