@@ -1,10 +1,17 @@
-// The bucket of an entry, as those five words of the caller's own list that are it.
+// The bucket of an entry: the place of its five words in the caller's own list, and those words themselves.
 
 ghost use mathlib.Core.Path.{_≡_};
 ghost use Prim.Native.Nat.{_<_};
 ghost use Rattle.layout.specs.Words.{entries};
 ghost use Rattle.layout.specs.Reading.{Readable};
-ghost use Rattle.layout.specs.Finding.{findFault, bucketOf, found};
+ghost use Rattle.layout.specs.Finding.{findFault, bucketOf, findReply, found};
+ghost use Rattle.finding.specs.Place.{placeReply};
+
+// Where a bucket's first word stands, or the number of the refusal.
+pub enum Place {
+    At(usize),
+    Refused(u32),
+}
 
 // The number of the first sentence of 7 to 12 and 15 that is true of a list and an entry, or 0 where there is none.
 pub fn find_fault(words: &[u32], entry: u32) -> u32
@@ -38,14 +45,24 @@ fn bucket_of(words: &[u32], entry: u32) -> usize
     low
 }
 
+// The place of the first of the five words of the entry's bucket, or the number that find_fault gives.
+pub fn find_place(words: &[u32], entry: u32) -> Place
+    ensures { λ r. ⌜ placeReply r ≡ findReply (now (words .entry)) entry ⌝ }
+{
+    let number = find_fault(words, entry);
+    if number != 0 {
+        return Place::Refused(number);
+    }
+    Place::At(words::HEAD_WORDS + words::BUCKET_WORDS * bucket_of(words, entry))
+}
+
 // The five words of the entry's bucket; the empty part at the list's start where find_fault gives a number.
 pub fn find(words: &[u32], entry: u32) -> &[u32]
     ensures { λ r. ⌜ now r ≡ found (now (words .entry)) entry ⌝ }
 {
-    if find_fault(words, entry) != 0 {
+    let Place::At(at) = find_place(words, entry) else {
         return &words[0..0];
-    }
-    let at = words::HEAD_WORDS + words::BUCKET_WORDS * bucket_of(words, entry);
+    };
     let end = at + words::BUCKET_WORDS;
     &words[at..end]
 }

@@ -12,6 +12,7 @@ use lib.Dec.{ltb, eqb}
 use lib.ListN.{length, getD, take, drop, length-take, length-drop}
 use lib.Seq.{getD-take, getD-drop}
 use Rattle.laws.specs.Refusal.{refusal, numbered}
+use Rattle.laws.specs.Reply.{Reply, answered, refused}
 use Rattle.laws.specs.Sums.{prefixSum}
 use Rattle.laws.proofs.RefusalLaws.{refusal-append}
 use Rattle.laws.proofs.SearchLaws.{first-is, first-eq}
@@ -21,7 +22,7 @@ use Rattle.layout.specs.declared.Bucket.{Bucket}
 use Rattle.layout.specs.Words.{word, place, entries, buckets, fiveWords, start, end}
 use Rattle.layout.specs.Decoded.{decode, bucketAt, bucketletStart, bucketletEnd}
 use Rattle.layout.specs.Reading.{reading, readFault, Readable}
-use Rattle.layout.specs.Finding.{entryFault, findFault, bucketOf, found, bucketletOf}
+use Rattle.layout.specs.Finding.{entryFault, findFault, bucketOf, findReply, found, bucketletOf}
 use Rattle.layout.specs.Claims.{InBucket, InBucketlet, Entries, Finds}
 use Rattle.layout.proofs.DecodedLaws.{by-elements}
 use Rattle.layout.proofs.StartLaws.{tiles, starts-mono, end-next}
@@ -151,6 +152,28 @@ module _ (ws : List ℕ) (e : ℕ) where
       go false q = leb-false (entries ws) e q
 
 module _ (ws : List ℕ) (e : ℕ) where
+  -- the reply by the fault, and the fault by the reply, since no bucket begins at 0
+  pub place-refused : (n : ℕ) → (findFault ws e ≡ 0 → ⊥) → n ≡ findFault ws e → refused n ≡ findReply ws e
+  unfolding findReply
+  place-refused n f p = simp (ne-eqb (findFault ws e) 0 f) (ap refused p)
+
+  pub place-found : (at : ℕ) → findFault ws e ≡ 0 → at ≡ place (bucketOf ws e) 0 → answered at ≡ findReply ws e
+  unfolding findReply
+  place-found at f p = simp (eq-eqb (findFault ws e) 0 f) (ap answered p)
+
+  pub place-fault : (n : ℕ) → refused n ≡ findReply ws e → findFault ws e ≡ 0 → ⊥
+  place-fault n r f = let v = ap (λ (x : Reply). x .value) (r ∙ sym (place-found _ f refl)) in omega arith
+
+  pub place-no-fault : (at : ℕ) → answered at ≡ findReply ws e → findFault ws e ≡ 0
+  place-no-fault at r = go (eqb (findFault ws e) 0) refl
+    where
+      go : (t : Bool) → eqb (findFault ws e) 0 ≡ t → findFault ws e ≡ 0
+      go true q = eqb-true (findFault ws e) 0 q
+      go false q = sym (ap (λ (x : Reply). x .refusal) (r ∙ sym (place-refused _ (eqb-false (findFault ws e) 0 q) refl)))
+
+  pub place-is : (at : ℕ) → answered at ≡ findReply ws e → at ≡ place (bucketOf ws e) 0
+  place-is at r = ap (λ (x : Reply). x .value) (r ∙ sym (place-found _ (place-no-fault at r) refl))
+
   pub found-none : (findFault ws e ≡ 0 → ⊥) → found ws e ≡ []
   found-none n = simp (ne-eqb (findFault ws e) 0 n)
 

@@ -7,7 +7,7 @@ use Rattle.laws.specs.Search.{first}
 use Rattle.coding.specs.Total.{validFields}
 use Rattle.layout.specs.Decoded.{decode, encode}
 use Rattle.layout.specs.Reading.{headGood, headFault, lengthFault, wordsBroken, wordFault, startFault, widthsBroken, widthFault, classBroken, codesBroken, codeFault}
-use Rattle.layout.specs.Finding.{bucketOf, bucketletOf}
+use Rattle.layout.specs.Finding.{bucketOf, findReply, bucketletOf}
 use Rattle.layout.specs.Examples.{Decoding, Faults, Found}
 
 pub decoding : Decoding
@@ -49,5 +49,5 @@ faults =
     }
 
 pub found : Found
-unfolding each some refusal validFields decode headGood headFault lengthFault wordsBroken wordFault startFault widthsBroken widthFault classBroken codesBroken codeFault bucketOf bucketletOf first
-found = record { buckets-of = refl; bucketlets-of = refl; first = refl; second = refl; faults = refl; refused = refl }
+unfolding each some refusal validFields decode headGood headFault lengthFault wordsBroken wordFault startFault widthsBroken widthFault classBroken codesBroken codeFault bucketOf findReply bucketletOf first
+found = record { buckets-of = refl; bucketlets-of = refl; first = refl; second = refl; faults = refl; refused = refl; places = refl }

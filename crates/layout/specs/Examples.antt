@@ -5,11 +5,12 @@ use mathlib.Core.Bool.{true, false}
 use mathlib.Core.List.{List, [], _∷_, _++_, map}
 use Prim.Native.Nat.{ℕ, _+_, _*_, _^_}
 use lib.ListN.{take, drop, set}
+use Rattle.laws.specs.Reply.{answered, refused as refusedWith}
 use Rattle.layout.specs.declared.Bucket.{Bucket}
 use Rattle.layout.specs.Words.{end}
 use Rattle.layout.specs.Decoded.{decode, encode, bucketAt, bucketletStart, bucketletEnd}
 use Rattle.layout.specs.Reading.{readFault}
-use Rattle.layout.specs.Finding.{bucketOf, findFault, found, bucketletOf}
+use Rattle.layout.specs.Finding.{bucketOf, findFault, findReply, found, bucketletOf}
 
 -- 10, 10, 10, 10, theta 1, q 3/2
 abbrev pub tens : List ℕ
@@ -133,3 +134,4 @@ pub record Found : Type 0 where
   pub second : found two 4 ≡ drop 9 two
   pub faults : findFault two 9 ∷ findFault two 10 ∷ findFault [] 0 ∷ findFault (take 13 two) 10 ∷ [] ≡ 0 ∷ 15 ∷ 7 ∷ 8 ∷ []
   pub refused : found two 10 ≡ []
+  pub places : map (findReply two) (3 ∷ 4 ∷ 10 ∷ []) ≡ answered 4 ∷ answered 9 ∷ refusedWith 15 ∷ []

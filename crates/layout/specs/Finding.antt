@@ -6,6 +6,7 @@ use Prim.Native.Nat.{ℕ}
 use lib.Dec.{leb, ltb, eqb}
 use lib.ListN.{take, drop}
 use Rattle.laws.specs.Refusal.{Sentence, refusal}
+use Rattle.laws.specs.Reply.{Reply, answered, refused}
 use Rattle.laws.specs.Search.{first}
 use Rattle.layout.specs.declared.Bucket.{Bucket}
 use Rattle.layout.specs.Words.{bucketWords, place, entries, buckets, end}
@@ -25,6 +26,12 @@ findFault ws e = refusal (finding ws e)
 -- the first bucket whose end is above the entry
 unfoldable pub bucketOf : List ℕ → ℕ → ℕ
 bucketOf ws e = first (λ b. ltb e (end ws b)) (buckets ws) 0
+
+-- the place of its first word
+unfoldable pub findReply : List ℕ → ℕ → Reply
+findReply ws e =
+    let fault = findFault ws e in
+    cond (eqb fault 0) (answered (place (bucketOf ws e) 0)) (refused fault)
 
 -- its five words, as a part of the list; refused, the empty part
 abbrev pub found : List ℕ → ℕ → List ℕ

@@ -1,26 +1,43 @@
--- `finding::find` meets its contract: where there is no fault, the bucket's five words lie within the list.
+-- `finding::find` meets its contract: the five words from the place that is found lie within the list.
 -- Assumes nothing.
-use mathlib.Core.Path.{_≡_, sym, _∙_}
-use Prim.Native.Nat.{_+_, _-_, _*_, _≤_}
+use mathlib.Core.Path.{_≡_, sym, ap, _∙_}
+use mathlib.Core.List.{List}
+use Prim.Native.Nat.{ℕ, _+_, _-_, _≤_}
 use native.Mathlib.Omega.{arith}
 use borrow.Author.Needs.{needs}
 use lib.ListN.{length, take, drop}
-use Rattle.layout.specs.Words.{place}
-use Rattle.layout.specs.Finding.{findFault, bucketOf}
-use Rattle.layout.proofs.EntryLaws.{found-readable, found-below, found-none, found-part, bucket-within}
+use Rattle.laws.specs.Reply.{answered}
+use Rattle.layout.specs.Finding.{findReply, found}
+use Rattle.layout.proofs.EntryLaws.{found-none, found-part, place-fault, place-no-fault, place-is, bucket-within}
+use Rattle.finding.specs.Place.{placeReply}
 use Rattle.finding.proofs.find.Statement.{statement}
 use Rattle.finding.proofs.find.Tie as tie
 
-no-fault : (c : tie.Else1) → findFault (c .before .before .before .args .words .now) (c .before .before .before .args .entry) ≡ 0
-no-fault c = omega (arith, c .before .find-fault .ensures)
+-- the place in hand is the reply's
+placed : (c : tie.After-known-told)
+    → let a = c .before .before .before .before .before .args in
+    answered (c .before .at .given .0 .0) ≡ findReply (a .words .now) (a .entry)
+placed c = ap placeReply (sym (c .before .at .given .1)) ∙ c .before .before .before .find-place .ensures
 
-within : (c : tie.After-bucket-of) → 4 + 5 * c .bucket-of .result + 5 ≤ length (c .before .before .before .before .args .words .now)
+within : (c : tie.After-known-told) → c .before .at .given .0 .0 + 5 ≤ length (c .before .before .before .before .before .args .words .now)
 within c =
-    let a = c .before .before .before .before .args in
-    omega (arith, c .bucket-of .ensures, bucket-within (a .words .now) (a .entry) (no-fault (c .before)))
+    let a = c .before .before .before .before .before .args in
+    let at = c .before .at .given .0 .0 in
+    let p = place-is (a .words .now) (a .entry) at (placed c) in
+    omega (arith, bucket-within (a .words .now) (a .entry) (place-no-fault (a .words .now) (a .entry) at (placed c)))
 
-find-fault-requires : tie.Need-find-fault-requires
-find-fault-requires c κs = search needs
+five-from : (ws : List ℕ) (e n at : ℕ) → answered at ≡ findReply ws e → n ≡ 5 → take n (drop at ws) ≡ found ws e
+five-from ws e n at r p =
+    (λ i. take (p i) (drop (place-is ws e at r i) ws)) ∙ sym (found-part ws e (place-no-fault ws e at r))
+
+find-place-requires : tie.Need-find-place-requires
+find-place-requires c κs = search needs
+
+enum-known-at : tie.Need-enum-known-at
+enum-known-at c = search needs
+
+enum-told : tie.Need-enum-told
+enum-told c = search needs
 
 sub-result : tie.Need-sub-result
 sub-result c = search needs
@@ -33,19 +50,9 @@ part-result-end c = search needs
 
 returns : tie.Need-returns
 returns c =
-    let a = c .before .before .before .before .args in
-    sym (found-none (a .words .now) (a .entry) (λ e. omega (arith, c .before .before .find-fault .ensures)))
-
-bucket-of-requires : tie.Need-bucket-of-requires
-bucket-of-requires c κs =
-    let a = c .before .before .before .args in
-    (found-readable (a .words .now) (a .entry) (no-fault c), found-below (a .words .now) (a .entry) (no-fault c))
-
-mul-at : tie.Need-mul-at
-mul-at c = omega (arith, within c)
-
-add-at : tie.Need-add-at
-add-at c = omega (arith, within c)
+    let a = c .before .before .before .before .before .args in
+    let told = c .before .enum-told .given in
+    sym (found-none (a .words .now) (a .entry) (place-fault (a .words .now) (a .entry) _ (ap placeReply (sym (told .1)) ∙ c .before .before .before .find-place .ensures)))
 
 add-end : tie.Need-add-end
 add-end c = omega (arith, within c)
@@ -64,24 +71,21 @@ part-result-end-2 c = omega (arith, within c)
 
 returns-2 : tie.Need-returns-2
 returns-2 c =
-    let a = c .before .before .before .before .before .args in
-    let at = 4 + 5 * c .before .bucket-of .result in
-    let n : at + 5 - at ≡ 5 = omega arith in
-    let p : at ≡ place (bucketOf (a .words .now) (a .entry)) 0 = omega (arith, c .before .bucket-of .ensures) in
-    (λ i. take (n i) (drop (p i) (a .words .now))) ∙ sym (found-part (a .words .now) (a .entry) (no-fault (c .before .before)))
+    let a = c .before .before .before .before .before .before .args in
+    let at = c .before .before .at .given .0 .0 in
+    five-from (a .words .now) (a .entry) (at + 5 - at) at (placed (c .before)) (omega arith)
 
 pub find-spec : {M : Type 1} → statement M
 find-spec =
     tie.close
     (tie.spec
-    find-fault-requires
+    find-place-requires
+    enum-known-at
+    enum-told
     sub-result
     part-result-start
     part-result-end
     returns
-    bucket-of-requires
-    mul-at
-    add-at
     add-end
     mul-result
     sub-result-2

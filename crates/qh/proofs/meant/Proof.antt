@@ -1,0 +1,22 @@
+-- `qh::meant` meets its contract: each case has the number and the value of its reply.
+-- Assumes nothing.
+use mathlib.Core.Path.{sym, ap}
+use borrow.Author.Needs.{needs}
+use Rattle.counts.specs.Reply.{meaningReply}
+use Rattle.qh.proofs.meant.Statement.{statement}
+use Rattle.qh.proofs.meant.Tie as tie
+
+enum-known-answer : tie.Need-enum-known-answer
+enum-known-answer c = search needs
+
+enum-told : tie.Need-enum-told
+enum-told c = search needs
+
+returns : tie.Need-returns
+returns c = ap meaningReply (sym (c .before .answer .given .1))
+
+returns-2 : tie.Need-returns-2
+returns-2 c = ap meaningReply (sym (c .enum-told .given .1))
+
+pub meant-spec : {M : Type 1} → statement M
+meant-spec = tie.close (tie.spec enum-known-answer enum-told returns returns-2)

@@ -1,0 +1,51 @@
+-- `qh::qh_check` meets its contract, by that of `verify::check`.
+-- Assumes nothing.
+use mathlib.Core.Path.{sym, ap, _∙_}
+use borrow.Author.Needs.{needs}
+use Prim.Native.Nat.{ℕ}
+use Rattle.verdict.specs.Reply.{failedAnswer, verdictReply}
+use Rattle.qh.specs.Results.{verdictOf}
+use Rattle.qh.proofs.qh_check.Statement.{statement}
+use Rattle.qh.proofs.qh_check.Tie as tie
+
+check-requires : tie.Need-check-requires
+check-requires c κs = search needs
+
+enum-known-refusal : tie.Need-enum-known-refusal
+enum-known-refusal c = search needs
+
+enum-told : tie.Need-enum-told
+enum-told c = search needs
+
+enum-known-failing : tie.Need-enum-known-failing
+enum-known-failing c = search needs
+
+number-of-requires : tie.Need-number-of-requires
+number-of-requires c κs = search needs
+
+returns : tie.Need-returns
+returns c = ap verdictOf (ap verdictReply (sym (c .before .refusal .given .1)) ∙ c .before .before .before .check .ensures)
+
+returns-2 : tie.Need-returns-2
+returns-2 c = ap verdictOf (ap verdictReply (sym (c .enum-told .given .1)) ∙ c .before .before .check .ensures)
+
+returns-3 : tie.Need-returns-3
+returns-3 c =
+    let f = c .before .before .failing .given in
+    ap verdictOf
+    (ap (λ (n : ℕ). failedAnswer n (f .0 .0 .start) (f .0 .0 .end)) (c .number-of .ensures)
+    ∙ ap verdictReply (sym (f .1))
+    ∙ c .before .before .before .before .check .ensures)
+
+pub qh-check-spec : {M : Type 1} → statement M
+qh-check-spec =
+    tie.close
+    (tie.spec
+    check-requires
+    enum-known-refusal
+    enum-told
+    enum-known-failing
+    number-of-requires
+    returns
+    returns-2
+    returns-3)

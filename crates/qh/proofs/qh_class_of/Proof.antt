@@ -1,0 +1,18 @@
+-- `qh::qh_class_of` meets its contract, by that of `counts::class_of`.
+-- Assumes nothing.
+use mathlib.Core.Path.{_∙_}
+use borrow.Author.Needs.{needs}
+use Rattle.qh.proofs.qh_class_of.Statement.{statement}
+use Rattle.qh.proofs.qh_class_of.Tie as tie
+
+class-of-requires : tie.Need-class-of-requires
+class-of-requires c κs = search needs
+
+coded-requires : tie.Need-coded-requires
+coded-requires c κs = search needs
+
+returns : tie.Need-returns
+returns c = c .coded .ensures ∙ c .before .class-of .ensures
+
+pub qh-class-of-spec : {M : Type 1} → statement M
+qh-class-of-spec = tie.close (tie.spec class-of-requires coded-requires returns)

@@ -1,0 +1,18 @@
+-- `qh::qh_code_of_total` meets its contract, by that of `counts::code_of_total`.
+-- Assumes nothing.
+use mathlib.Core.Path.{_∙_}
+use borrow.Author.Needs.{needs}
+use Rattle.qh.proofs.qh_code_of_total.Statement.{statement}
+use Rattle.qh.proofs.qh_code_of_total.Tie as tie
+
+code-of-total-requires : tie.Need-code-of-total-requires
+code-of-total-requires c κs = search needs
+
+coded-requires : tie.Need-coded-requires
+coded-requires c κs = search needs
+
+returns : tie.Need-returns
+returns c = c .coded .ensures ∙ c .before .code-of-total .ensures
+
+pub qh-code-of-total-spec : {M : Type 1} → statement M
+qh-code-of-total-spec = tie.close (tie.spec code-of-total-requires coded-requires returns)

@@ -1,0 +1,199 @@
+// The calls for programs in C and Rust, under their plain names: a list goes in as pointer and length, an answer comes out as a struct by value.
+// Where a call is refused, all of its answer but the refusal's number is 0.
+
+use asking::Asked;
+use build::Built;
+use counts::Coded;
+use counts::Meaning;
+use finding::Place;
+use verdict::Sort;
+use verdict::Verdict;
+ghost use mathlib.Core.Path.{_≡_};
+ghost use lib.ListN.{length};
+ghost use Rattle.counts.specs.Reply.{codedReply, meaningReply};
+ghost use Rattle.counts.specs.Reply.{classReply, classMeaning, totalReply, totalMeaning};
+ghost use Rattle.layout.specs.Finding.{findReply};
+ghost use Rattle.histogram.specs.Building.{buildReply, written};
+ghost use Rattle.verdict.specs.Reply.{sortNumber};
+ghost use Rattle.verdict.specs.Checking.{checkReply};
+ghost use Rattle.estimate.specs.Asking.{estimateReply};
+ghost use Rattle.qh.specs.Results.{codedOut, builtOut, estimateOut, foundOut, verdictOf};
+
+#[repr(C)]
+pub struct QhCoded {
+    pub refusal: u32,
+    pub value: u32,
+}
+
+#[repr(C)]
+pub struct QhBuilt {
+    pub refusal: u32,
+    pub words: usize,
+}
+
+// accepted is 1 or 0; sort is that of what fails first, 1 for a bucketlet, 2 for a part of one, 3 for a bucket.
+#[repr(C)]
+pub struct QhVerdict {
+    pub refusal: u32,
+    pub accepted: u32,
+    pub sort: u32,
+    pub start: u32,
+    pub end: u32,
+}
+
+#[repr(C)]
+pub struct QhEstimate {
+    pub refusal: u32,
+    pub estimate: u64,
+}
+
+#[repr(C)]
+pub struct QhFound {
+    pub refusal: u32,
+    pub at: usize,
+}
+
+fn coded(answer: Coded) -> QhCoded
+    ensures { λ r. ⌜ codedOut r ≡ codedReply answer ⌝ }
+{
+    match answer {
+        Coded::Code(code) => QhCoded {
+            refusal: 0,
+            value: code,
+        },
+        Coded::Refused => QhCoded {
+            refusal: 16,
+            value: 0,
+        },
+    }
+}
+
+fn meant(answer: Meaning) -> QhCoded
+    ensures { λ r. ⌜ codedOut r ≡ meaningReply answer ⌝ }
+{
+    match answer {
+        Meaning::Number(number) => QhCoded {
+            refusal: 0,
+            value: number,
+        },
+        Meaning::Refused => QhCoded {
+            refusal: 17,
+            value: 0,
+        },
+    }
+}
+
+// The class of a count, or 16.
+#[no_mangle]
+pub extern "C" fn qh_class_of(count: u32) -> QhCoded
+    ensures { λ r. ⌜ codedOut r ≡ classReply count ⌝ }
+{
+    coded(counts::class_of(count))
+}
+
+// The number that a class stands for, or 17.
+#[no_mangle]
+pub extern "C" fn qh_number_of_class(class: u32) -> QhCoded
+    ensures { λ r. ⌜ codedOut r ≡ classMeaning class ⌝ }
+{
+    meant(counts::number_of_class(class))
+}
+
+// The code of a total, or 16.
+#[no_mangle]
+pub extern "C" fn qh_code_of_total(total: u32) -> QhCoded
+    ensures { λ r. ⌜ codedOut r ≡ totalReply total ⌝ }
+{
+    coded(counts::code_of_total(total))
+}
+
+// The number that a total code stands for, or 17.
+#[no_mangle]
+pub extern "C" fn qh_number_of_total(code: u32) -> QhCoded
+    ensures { λ r. ⌜ codedOut r ≡ totalMeaning code ⌝ }
+{
+    meant(counts::number_of_total(code))
+}
+
+// Writes the histogram into the first words that are lent and answers how many they are; refused with 1 to 6, it writes nothing.
+#[no_mangle]
+pub extern "C" fn qh_build(freqs: &[u32], theta: u32, qn: u32, qd: u32, out: &mut [u32]) -> QhBuilt
+    ensures { λ r. ⌜ builtOut r ≡ buildReply (now (freqs .entry)) theta qn qd (length (now (out .entry))) ⌝ }
+    ensures { λ r. ⌜ now (out .exit) ≡ written (now (freqs .entry)) theta qn qd (now (out .entry)) ⌝ }
+{
+    match build::build(freqs, theta, qn, qd, out) {
+        Built::Words(words) => QhBuilt { refusal: 0, words },
+        Built::Refused(refusal) => QhBuilt { refusal, words: 0 },
+    }
+}
+
+fn number_of(sort: Sort) -> u32
+    ensures { λ r. ⌜ r ≡ sortNumber sort ⌝ }
+{
+    match sort {
+        Sort::Bucketlet => 1,
+        Sort::Part => 2,
+        Sort::Bucket => 3,
+    }
+}
+
+// Whether a histogram is accepted for a list, and else what fails first; refused with 1 to 3 and 7 to 13.
+#[no_mangle]
+pub extern "C" fn qh_check(freqs: &[u32], words: &[u32]) -> QhVerdict
+    ensures { λ r. ⌜ r ≡ verdictOf (checkReply (now (freqs .entry)) (now (words .entry))) ⌝ }
+{
+    match verify::check(freqs, words) {
+        Verdict::Refused(refusal) => QhVerdict {
+            refusal,
+            accepted: 0,
+            sort: 0,
+            start: 0,
+            end: 0,
+        },
+        Verdict::Accepted => QhVerdict {
+            refusal: 0,
+            accepted: 1,
+            sort: 0,
+            start: 0,
+            end: 0,
+        },
+        Verdict::Fails(failing) => {
+            let sort = failing.sort;
+            QhVerdict {
+                refusal: 0,
+                accepted: 0,
+                sort: number_of(sort),
+                start: failing.start,
+                end: failing.end,
+            }
+        }
+    }
+}
+
+// The estimated count of the entries from x up to y, without y; refused with 7 to 12 and 14.
+#[no_mangle]
+pub extern "C" fn qh_estimate(words: &[u32], x: u32, y: u32) -> QhEstimate
+    ensures { λ r. ⌜ estimateOut r ≡ estimateReply (now (words .entry)) x y ⌝ }
+{
+    match asking::estimate(words, x, y) {
+        Asked::Estimate(count) => QhEstimate {
+            refusal: 0,
+            estimate: count,
+        },
+        Asked::Refused(refusal) => QhEstimate {
+            refusal,
+            estimate: 0,
+        },
+    }
+}
+
+// Where in the list the five words of the entry's bucket begin; refused with 7 to 12 and 15.
+#[no_mangle]
+pub extern "C" fn qh_find(words: &[u32], entry: u32) -> QhFound
+    ensures { λ r. ⌜ foundOut r ≡ findReply (now (words .entry)) entry ⌝ }
+{
+    match finding::find_place(words, entry) {
+        Place::At(at) => QhFound { refusal: 0, at },
+        Place::Refused(refusal) => QhFound { refusal, at: 0 },
+    }
+}
