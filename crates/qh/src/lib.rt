@@ -17,6 +17,7 @@ ghost use Rattle.histogram.specs.Building.{buildReply, written};
 ghost use Rattle.verdict.specs.Reply.{sortNumber};
 ghost use Rattle.verdict.specs.Checking.{checkReply};
 ghost use Rattle.estimate.specs.Asking.{estimateReply};
+ghost use Rattle.exam.specs.Sheet.{sheet, filled};
 ghost use Rattle.qh.specs.Results.{codedOut, builtOut, estimateOut, foundOut, verdictOf};
 
 #[repr(C)]
@@ -196,4 +197,13 @@ pub extern "C" fn qh_find(words: &[u32], entry: u32) -> QhFound
         Place::At(at) => QhFound { refusal: 0, at },
         Place::Refused(refusal) => QhFound { refusal, at: 0 },
     }
+}
+
+// Fills the first bytes that are lent with what the exam sheet prints for an input and answers how many they are; a refusal is printed too.
+#[no_mangle]
+pub extern "C" fn qh_sheet(input: &[u8], out: &mut [u8; 163840]) -> usize
+    ensures { λ r. ⌜ r ≡ length (sheet (now (input .entry))) ⌝ }
+    ensures { λ r. ⌜ now (out .exit) ≡ filled (now (out .entry)) (sheet (now (input .entry))) ⌝ }
+{
+    listing::listing(input, out)
 }
