@@ -1,0 +1,230 @@
+//! Runs the reference and another program on the same inputs and compares every answer.
+
+mod calls;
+mod coding;
+mod directed;
+mod factors;
+mod large;
+mod sheets;
+mod small;
+
+use crate::demand::KS;
+use crate::generate::Random;
+use crate::program::Program;
+use factors::Largest;
+use std::io::Write;
+use std::time::Instant;
+
+macro_rules! groups {
+    ($($group:ident: $name:literal,)*) => {
+        /// The groups of comparisons. Each passes if it ran and nothing in it failed.
+        #[derive(Clone, Copy, Debug, PartialEq, Eq)]
+        enum Group { $($group),* }
+
+        const GROUPS: &[&str] = &[$($name),*];
+    };
+}
+
+groups! {
+    ClassOf: "class of a count",
+    NumberOfClass: "number of a class",
+    CodeOfTotal: "code of a total",
+    NumberOfTotal: "number of a code",
+    Ways: "build: the reference's ways agree",
+    BuildSmall: "build: small lists",
+    BuildWide: "build: widths about 511 and 4,095",
+    BuildLarge: "build: large lists",
+    BuildReal: "build: real lists",
+    BuildRefused: "build: refusals and lent words",
+    CheckBuilt: "check: built histograms",
+    CheckForeign: "check: foreign histograms",
+    CheckOther: "check: other lists than the one built for",
+    CheckDamaged: "check: damaged words",
+    CheckRandom: "check: random words",
+    CheckLarge: "check: wide and large lists",
+    CheckReal: "check: real lists",
+    CheckDirected: "check: directed lists",
+    EstimateBuilt: "estimate: built histograms",
+    EstimateForeign: "estimate: foreign histograms",
+    EstimateDamaged: "estimate: damaged words",
+    EstimateRandom: "estimate: random words",
+    EstimateLarge: "estimate: wide and large lists",
+    EstimateReal: "estimate: real lists",
+    EstimateDirected: "estimate: directed lists",
+    FindSmall: "find: built and foreign histograms",
+    FindDamaged: "find: damaged words",
+    FindRandom: "find: random words",
+    FindLarge: "find: wide and large lists",
+    FindReal: "find: real lists",
+    SheetGood: "sheet: good input",
+    SheetDamaged: "sheet: damaged input",
+    DemandBuilt: "demand 3: built histograms",
+    DemandForeign: "demand 3: foreign histograms",
+    DemandDirected: "demand 3: directed lists",
+    DemandLarge: "demand 3: wide and large lists",
+    DemandReal: "demand 3: real lists",
+    DemandNear: "demand 3: directed lists tell k - 2 from k - 1",
+}
+
+/// The groups that one kind of histogram is asked in.
+#[derive(Clone, Copy)]
+struct Asking {
+    check: Group,
+    estimate: Group,
+    find: Group,
+    demand: Group,
+}
+
+/// How much is compared.
+#[derive(Clone, Copy, Debug)]
+pub struct Volume {
+    pub codings: u32,
+    pub small: usize,
+    pub wide: usize,
+    pub longest: usize,
+    pub directed: usize,
+    pub sheets: usize,
+}
+
+impl Volume {
+    pub const FULL: Volume =
+        Volume { codings: 1_000_000, small: 20_000, wide: 80, longest: 65_536, directed: 300, sheets: 3_000 };
+
+    /// Enough to find the known faults in a test.
+    pub const QUICK: Volume = Volume { codings: 3_000, small: 150, wide: 0, longest: 600, directed: 10, sheets: 120 };
+}
+
+#[derive(Clone, Copy, Debug, Default)]
+struct Counts {
+    lists: u64,
+    built: u64,
+    foreign: u64,
+    damaged: u64,
+    random: u64,
+    accepted: u64,
+    estimates: u64,
+    ranges: u64,
+    mismatches: u64,
+}
+
+#[derive(Clone, Copy, Debug, Default)]
+struct Tally {
+    compared: u64,
+    mismatches: u64,
+}
+
+pub struct Comparison<'a> {
+    program: &'a dyn Program,
+    volume: Volume,
+    seed: u64,
+    real: Vec<Vec<u32>>,
+    counts: Counts,
+    /// For each k and side of demand 3.
+    largest: Vec<[Option<Largest>; 2]>,
+    tallies: Vec<Tally>,
+    /// What the bytes lent for a sheet hold before the call.
+    sheet_contents: Vec<u8>,
+    out: &'a mut dyn Write,
+}
+
+/// How many mismatches of a group are shown.
+const SHOWN: u64 = 3;
+
+impl<'a> Comparison<'a> {
+    pub fn new(
+        program: &'a dyn Program,
+        volume: Volume,
+        seed: u64,
+        real: Vec<Vec<u32>>,
+        out: &'a mut dyn Write,
+    ) -> Comparison<'a> {
+        Comparison {
+            program,
+            volume,
+            seed,
+            real,
+            counts: Counts::default(),
+            largest: vec![[None, None]; KS.len()],
+            tallies: vec![Tally::default(); GROUPS.len()],
+            sheet_contents: calls::sheet_contents(),
+            out,
+        }
+    }
+
+    /// Compares all, prints the figures and the last line, and answers whether all passed.
+    pub fn run(&mut self) -> bool {
+        self.part("codings", Comparison::codings);
+        self.part("small lists", Comparison::small_lists);
+        self.part("wide lists", Comparison::wide_lists);
+        self.part("large lists", Comparison::large_lists);
+        self.part("extremes", Comparison::extremes);
+        self.part("real lists", Comparison::real_lists);
+        self.part("refusals of the builder", Comparison::build_refusals);
+        self.part("every bit", Comparison::every_bit);
+        self.part("random words", Comparison::random_words);
+        self.part("directed lists", Comparison::directed_lists);
+        self.part("sheets", Comparison::sheets);
+        self.show_largest();
+        self.report()
+    }
+
+    fn part(&mut self, name: &str, run: impl FnOnce(&mut Self)) {
+        let begun = Instant::now();
+        run(self);
+        let seconds = begun.elapsed().as_secs_f64();
+        self.show(&format!("{name}: {seconds:.1} s"));
+    }
+
+    /// A stream of its own for each part, so that one part's volume does not move another.
+    fn random(&self, part: u64) -> Random {
+        let mut random = Random::new(self.seed ^ (part << 56));
+        random.word();
+        random
+    }
+
+    fn show(&mut self, line: &str) {
+        // A reader that has gone is no reason to stop: the exit status still tells.
+        let _ = writeln!(self.out, "{line}");
+    }
+
+    /// Counts one comparison, and shows what failed.
+    fn note(&mut self, group: Group, mismatch: Option<String>) {
+        self.tallies[group as usize].compared += 1;
+        if let Some(text) = mismatch {
+            self.fail(group, &text);
+        }
+    }
+
+    fn fail(&mut self, group: Group, text: &str) {
+        let tally = &mut self.tallies[group as usize];
+        tally.mismatches += 1;
+        self.counts.mismatches += 1;
+        if tally.mismatches <= SHOWN {
+            let name = GROUPS[group as usize];
+            self.show(&format!("MISMATCH in {name}\n  {text}"));
+        }
+    }
+
+    fn report(&mut self) -> bool {
+        let (mut passed, mut failed) = (0, 0);
+        for (name, tally) in GROUPS.iter().zip(self.tallies.clone()) {
+            let Tally { compared, mismatches } = tally;
+            // A group that did not run shows nothing.
+            let good = compared > 0 && mismatches == 0;
+            let verdict = if good { "passed" } else { "FAILED" };
+            (passed, failed) = (passed + i32::from(good), failed + i32::from(!good));
+            self.show(&format!("{verdict}  {name}: {compared}, {mismatches} mismatches"));
+        }
+        self.show_counts();
+        self.show(&format!("{passed} passed, {failed} failed"));
+        failed == 0
+    }
+
+    fn show_counts(&mut self) {
+        let Counts { lists, built, foreign, damaged, random, accepted, estimates, ranges, mismatches } = self.counts;
+        self.show(&format!("{lists} lists"));
+        self.show(&format!("histograms: {built} built, {foreign} foreign, {damaged} damaged, {random} random"));
+        self.show(&format!("{estimates} estimates, {accepted} accepted pairs with {ranges} ranges"));
+        self.show(&format!("{mismatches} mismatches, seed {}", self.seed));
+    }
+}

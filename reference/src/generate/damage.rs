@@ -1,0 +1,124 @@
+//! Word lists with faults, most of them one field away from a good one, and random ones.
+
+use super::Random;
+use crate::words::{HEADS, KINDS, PER_BUCKET};
+
+/// Head words near their limits, q among them.
+const EDGES: [u32; 12] =
+    [0, 1, 65_535, 65_536, 65_537, 1_048_575, 1_048_576, 0x0C02, 0x1405, 0xF_A321, 0xF_A320, 1 << 29];
+
+/// Widths as their word and lowest bit.
+const WIDTHS: [(usize, u32); 7] = [(0, 0), (3, 18), (3, 9), (3, 0), (4, 18), (4, 9), (4, 0)];
+
+const CLASSES: [(usize, u32); 8] = [(1, 24), (1, 18), (1, 12), (1, 6), (1, 0), (2, 24), (2, 18), (2, 12)];
+
+/// A word list with one to three faults.
+pub fn damaged(random: &mut Random, words: &[u32]) -> Vec<u32> {
+    let mut words = words.to_vec();
+    for _ in 0..random.between(1, 3) {
+        if random.chance(1, 2) && words.len() >= HEADS + PER_BUCKET {
+            let buckets = (words.len() - HEADS) / PER_BUCKET;
+            let at = HEADS + PER_BUCKET * random.below(buckets as u64) as usize;
+            field_fault(random, &mut words[at..at + PER_BUCKET]);
+        } else if random.chance(1, 3) || words.is_empty() {
+            length_fault(random, &mut words);
+        } else {
+            word_fault(random, &mut words);
+        }
+    }
+    words
+}
+
+fn length_fault(random: &mut Random, words: &mut Vec<u32>) {
+    let length = words.len();
+    match random.below(3) {
+        0 => words.truncate(random.below(length as u64 + 1) as usize),
+        1 => words.push(random.word() as u32),
+        _ => words.extend_from_within(length.saturating_sub(PER_BUCKET)..),
+    }
+}
+
+fn word_fault(random: &mut Random, words: &mut [u32]) {
+    let place = random.place(words);
+    let head = random.below(words.len().min(HEADS) as u64) as usize;
+    match random.below(6) {
+        0 | 1 => words[place] ^= 1 << random.below(32),
+        2 => words[place] = random.pick(&[0, u32::MAX, 1 << 30, 2 << 30, 3 << 30]),
+        3 => words[place] = random.word() as u32,
+        4 => words[head] = random.pick(&EDGES),
+        _ => words[head] = words[head].wrapping_add(random.pick(&[1, 2, u32::MAX])),
+    }
+}
+
+/// Puts a value into bits high..low.
+fn set(word: &mut u32, high: u32, low: u32, value: u32) {
+    let mask = (1 << (high - low + 1)) - 1;
+    *word = (*word & !(mask << low)) | ((value & mask) << low);
+}
+
+/// A fault in one field of a bucket.
+fn field_fault(random: &mut Random, bucket: &mut [u32]) {
+    let step = random.pick(&[u32::MAX, 1, 2, 511, 512]);
+    match random.below(8) {
+        0 => {
+            let start = (bucket[0] >> 10).wrapping_add(step);
+            let other = random.pick(&[start, 0, 1, 70_000, 65_535]);
+            set(&mut bucket[0], 29, 10, other);
+        }
+        1 => bucket[0] ^= 1 << 9,
+        2 => {
+            let (place, kind) = (random.place(bucket), random.below(4) as u32);
+            set(&mut bucket[place], 31, 30, kind);
+        }
+        3 => bucket[random.pick(&[3, 4])] ^= 1 << random.between(27, 29),
+        4 | 5 => class_fault(random, bucket),
+        6 => {
+            let code = bucket[2] & 0xFFF;
+            let beside = random.pick(&[code + 1, code ^ 32, code ^ 1]);
+            let other = random.pick(&[beside, beside, 0, 31, 24, 2_048, 2_047, 4_087]);
+            set(&mut bucket[2], 11, 0, other);
+        }
+        _ => {
+            let (place, low) = random.pick(&WIDTHS);
+            let width = (bucket[place] >> low).wrapping_add(step);
+            set(&mut bucket[place], low + 8, low, width);
+        }
+    }
+}
+
+fn class_fault(random: &mut Random, bucket: &mut [u32]) {
+    let (place, low) = random.pick(&CLASSES);
+    let class = bucket[place] >> low;
+    let beside = random.pick(&[class ^ 1, class.wrapping_add(1), class.wrapping_sub(1)]);
+    let other = random.pick(&[beside, beside, 0, 2, 63, 62]);
+    set(&mut bucket[place], low + 5, low, other);
+}
+
+/// Random words, most of them with a good head, the right length and the right kinds.
+pub fn random_words(random: &mut Random) -> Vec<u32> {
+    if random.chance(1, 4) {
+        let length = random.below(20);
+        return (0..length).map(|_| random.word() as u32).collect();
+    }
+    let buckets = random.between(1, 3) as u32;
+    let d = random.between(buckets.into(), 60) as u32;
+    let mut words = vec![d, random.any_size(300) as u32, 0xC02, buckets];
+    for bucket in 0..buckets {
+        let mut five = KINDS.map(|kind| (kind << 30) | random.below(1 << 30) as u32);
+        if random.chance(7, 8) {
+            set(&mut five[3], 29, 27, 0);
+            set(&mut five[4], 29, 27, 0);
+        }
+        if random.chance(7, 8) {
+            set(&mut five[0], 29, 10, bucket * d / buckets);
+        }
+        if random.chance(7, 8) {
+            for (place, low) in WIDTHS {
+                let narrow = random.below(4) as u32;
+                set(&mut five[place], low + 8, low, narrow);
+            }
+        }
+        words.extend(five);
+    }
+    words
+}

@@ -1,0 +1,26 @@
+//! A reference for document 01, written from its text and meant to be read beside it, and the
+//! comparison of another program with it.
+
+// The sections of document 01.
+pub mod big;
+pub mod build;
+pub mod check;
+pub mod coding;
+pub mod estimate;
+pub mod fits;
+pub mod list;
+pub mod sheet;
+pub mod words;
+
+// Demand 3.
+pub mod demand;
+
+// Those who answer the calls.
+pub mod broken;
+#[cfg(feature = "linked")]
+pub mod linked;
+pub mod program;
+
+// The comparison.
+pub mod compare;
+pub mod generate;

@@ -1,0 +1,71 @@
+//! The other program's functions, called through the C interface.
+
+use crate::list::Bound;
+use crate::program::*;
+
+/// The program that answers by the linked functions.
+#[derive(Clone, Copy, Debug)]
+pub struct Linked;
+
+extern "C" {
+    fn qh_class_of(count: u32) -> QhCoded;
+    fn qh_number_of_class(class: u32) -> QhCoded;
+    fn qh_code_of_total(total: u32) -> QhCoded;
+    fn qh_number_of_total(code: u32) -> QhCoded;
+    fn qh_build(
+        frequencies: *const u32,
+        length: usize,
+        theta: u32,
+        qn: u32,
+        qd: u32,
+        lent: *mut u32,
+        lent_length: usize,
+    ) -> QhBuilt;
+    fn qh_check(frequencies: *const u32, length: usize, words: *const u32, words_length: usize) -> QhVerdict;
+    fn qh_estimate(words: *const u32, length: usize, x: u32, y: u32) -> QhEstimate;
+    fn qh_find(words: *const u32, length: usize, entry: u32) -> QhFound;
+    fn qh_sheet(input: *const u8, length: usize, lent: *mut u8) -> usize;
+}
+
+// SAFETY of each call: plain numbers, or pointers and lengths of whole slices that outlive
+// the call, which is all that the interface asks for.
+impl Program for Linked {
+    fn class_of(&self, count: u32) -> QhCoded {
+        unsafe { qh_class_of(count) }
+    }
+
+    fn number_of_class(&self, class: u32) -> QhCoded {
+        unsafe { qh_number_of_class(class) }
+    }
+
+    fn code_of_total(&self, total: u32) -> QhCoded {
+        unsafe { qh_code_of_total(total) }
+    }
+
+    fn number_of_total(&self, code: u32) -> QhCoded {
+        unsafe { qh_number_of_total(code) }
+    }
+
+    fn build(&self, frequencies: &[u32], bound: Bound, lent: &mut [u32]) -> QhBuilt {
+        let Bound { theta, qn, qd } = bound;
+        let (list, length) = (frequencies.as_ptr(), frequencies.len());
+        unsafe { qh_build(list, length, theta, qn, qd, lent.as_mut_ptr(), lent.len()) }
+    }
+
+    fn check(&self, frequencies: &[u32], words: &[u32]) -> QhVerdict {
+        let (list, length) = (frequencies.as_ptr(), frequencies.len());
+        unsafe { qh_check(list, length, words.as_ptr(), words.len()) }
+    }
+
+    fn estimate(&self, words: &[u32], x: u32, y: u32) -> QhEstimate {
+        unsafe { qh_estimate(words.as_ptr(), words.len(), x, y) }
+    }
+
+    fn find(&self, words: &[u32], entry: u32) -> QhFound {
+        unsafe { qh_find(words.as_ptr(), words.len(), entry) }
+    }
+
+    fn sheet(&self, input: &[u8], lent: &mut Sheet) -> usize {
+        unsafe { qh_sheet(input.as_ptr(), input.len(), lent.as_mut_ptr()) }
+    }
+}

@@ -1,0 +1,57 @@
+//! "The list and the range": limits of the list, of theta and of q.
+
+use std::fmt;
+
+pub const MOST_ENTRIES: usize = 65_536;
+pub const COUNT_LIMIT: u32 = 1_073_741_823;
+pub const MOST_THETA: u32 = 1_048_575;
+pub const MOST_Q_PART: u32 = 1_000;
+
+/// Theta and q, which is qn/qd and never reduced: both parts are stored and printed.
+#[derive(Clone, Copy, Debug, PartialEq, Eq)]
+pub struct Bound {
+    pub theta: u32,
+    pub qn: u32,
+    pub qd: u32,
+}
+
+impl Bound {
+    pub const fn new(theta: u32, qn: u32, qd: u32) -> Bound {
+        Bound { theta, qn, qd }
+    }
+
+    pub fn theta_within_limits(self) -> bool {
+        (1..=MOST_THETA).contains(&self.theta)
+    }
+
+    pub fn q_within_limits(self) -> bool {
+        let part = 1..=MOST_Q_PART;
+        // The parts come first: larger ones would overflow the products.
+        part.contains(&self.qn) && part.contains(&self.qd) && 4 * self.qn >= 5 * self.qd
+    }
+}
+
+impl fmt::Display for Bound {
+    fn fmt(&self, f: &mut fmt::Formatter) -> fmt::Result {
+        write!(f, "theta {}, q {}/{}", self.theta, self.qn, self.qd)
+    }
+}
+
+/// The true count of a part of the list.
+pub fn count(part: &[u32]) -> u64 {
+    part.iter().map(|&frequency| u64::from(frequency)).sum()
+}
+
+/// Refusals 1 to 3.
+pub fn list_fault(frequencies: &[u32]) -> Result<(), u32> {
+    if frequencies.is_empty() || frequencies.len() > MOST_ENTRIES {
+        return Err(1);
+    }
+    if frequencies.contains(&0) {
+        return Err(2);
+    }
+    if count(frequencies) > u64::from(COUNT_LIMIT) {
+        return Err(3);
+    }
+    Ok(())
+}

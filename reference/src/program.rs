@@ -1,0 +1,168 @@
+//! The calls as both programs answer them, in the form of the C interface.
+
+use crate::build::{build, Way};
+use crate::check::{check, Verdict};
+use crate::coding;
+use crate::estimate::estimate;
+use crate::fits::Sort;
+use crate::list::Bound;
+use crate::sheet::printed;
+use crate::words::find;
+
+/// A refusal is 0 where there is none, and all else is 0 where there is one.
+#[repr(C)]
+#[derive(Clone, Copy, Debug, Default, PartialEq, Eq)]
+pub struct QhCoded {
+    pub refusal: u32,
+    pub value: u32,
+}
+
+#[repr(C)]
+#[derive(Clone, Copy, Debug, Default, PartialEq, Eq)]
+pub struct QhBuilt {
+    pub refusal: u32,
+    pub words: usize,
+}
+
+/// Accepted is 1 or 0. Sort is 1 for bucketlet, 2 for part, 3 for bucket, and 0 where accepted.
+#[repr(C)]
+#[derive(Clone, Copy, Debug, Default, PartialEq, Eq)]
+pub struct QhVerdict {
+    pub refusal: u32,
+    pub accepted: u32,
+    pub sort: u32,
+    pub start: u32,
+    pub end: u32,
+}
+
+#[repr(C)]
+#[derive(Clone, Copy, Debug, Default, PartialEq, Eq)]
+pub struct QhEstimate {
+    pub refusal: u32,
+    pub estimate: u64,
+}
+
+/// The place of the first of the five words in the caller's list.
+#[repr(C)]
+#[derive(Clone, Copy, Debug, Default, PartialEq, Eq)]
+pub struct QhFound {
+    pub refusal: u32,
+    pub at: usize,
+}
+
+/// How many bytes are lent for what the listing program prints.
+pub const SHEET_BYTES: usize = 163_840;
+
+pub type Sheet = [u8; SHEET_BYTES];
+
+pub trait Program {
+    fn class_of(&self, count: u32) -> QhCoded;
+    fn number_of_class(&self, class: u32) -> QhCoded;
+    fn code_of_total(&self, total: u32) -> QhCoded;
+    fn number_of_total(&self, code: u32) -> QhCoded;
+    fn build(&self, frequencies: &[u32], bound: Bound, lent: &mut [u32]) -> QhBuilt;
+    fn check(&self, frequencies: &[u32], words: &[u32]) -> QhVerdict;
+    fn estimate(&self, words: &[u32], x: u32, y: u32) -> QhEstimate;
+    fn find(&self, words: &[u32], entry: u32) -> QhFound;
+    fn sheet(&self, input: &[u8], lent: &mut Sheet) -> usize;
+}
+
+impl From<Result<u32, u32>> for QhCoded {
+    fn from(answer: Result<u32, u32>) -> QhCoded {
+        let (refusal, value) = parted(answer);
+        QhCoded { refusal, value }
+    }
+}
+
+impl From<Result<usize, u32>> for QhBuilt {
+    fn from(answer: Result<usize, u32>) -> QhBuilt {
+        let (refusal, words) = parted(answer);
+        QhBuilt { refusal, words }
+    }
+}
+
+impl From<Result<u64, u32>> for QhEstimate {
+    fn from(answer: Result<u64, u32>) -> QhEstimate {
+        let (refusal, estimate) = parted(answer);
+        QhEstimate { refusal, estimate }
+    }
+}
+
+impl From<Result<usize, u32>> for QhFound {
+    fn from(answer: Result<usize, u32>) -> QhFound {
+        let (refusal, at) = parted(answer);
+        QhFound { refusal, at }
+    }
+}
+
+impl From<Result<Verdict, u32>> for QhVerdict {
+    fn from(answer: Result<Verdict, u32>) -> QhVerdict {
+        let mut verdict = QhVerdict::default();
+        match answer {
+            Ok(Verdict::Accepted) => verdict.accepted = 1,
+            Ok(Verdict::Fails { sort, start, end }) => {
+                verdict.sort = match sort {
+                    Sort::Bucketlet => 1,
+                    Sort::Part => 2,
+                    Sort::Bucket => 3,
+                };
+                (verdict.start, verdict.end) = (start, end);
+            }
+            Err(refusal) => verdict.refusal = refusal,
+        }
+        verdict
+    }
+}
+
+fn parted<T: Default>(answer: Result<T, u32>) -> (u32, T) {
+    match answer {
+        Ok(value) => (0, value),
+        Err(refusal) => (refusal, T::default()),
+    }
+}
+
+/// The reference itself, building by one of its ways.
+#[derive(Clone, Copy, Debug)]
+pub struct Reference(pub Way);
+
+impl Program for Reference {
+    fn class_of(&self, count: u32) -> QhCoded {
+        coding::class_of(count).into()
+    }
+
+    fn number_of_class(&self, class: u32) -> QhCoded {
+        coding::number_of_class(class).into()
+    }
+
+    fn code_of_total(&self, total: u32) -> QhCoded {
+        coding::code_of_total(total).into()
+    }
+
+    fn number_of_total(&self, code: u32) -> QhCoded {
+        coding::number_of_total(code).into()
+    }
+
+    fn build(&self, frequencies: &[u32], bound: Bound, lent: &mut [u32]) -> QhBuilt {
+        build(self.0, frequencies, bound, lent).into()
+    }
+
+    fn check(&self, frequencies: &[u32], words: &[u32]) -> QhVerdict {
+        check(frequencies, words).into()
+    }
+
+    fn estimate(&self, words: &[u32], x: u32, y: u32) -> QhEstimate {
+        estimate(words, x, y).into()
+    }
+
+    fn find(&self, words: &[u32], entry: u32) -> QhFound {
+        // The place of the part in the list that it is a part of.
+        let place = |five: &[u32]| (five.as_ptr() as usize - words.as_ptr() as usize) / 4;
+        find(words, entry).map(place).into()
+    }
+
+    fn sheet(&self, input: &[u8], lent: &mut Sheet) -> usize {
+        let text = printed(self.0, input);
+        lent[..text.len()].copy_from_slice(text.as_bytes());
+        text.len()
+    }
+}

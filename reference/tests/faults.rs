@@ -1,0 +1,35 @@
+//! The comparison finds nothing where there is nothing, and each known fault where it is.
+
+use reference::broken::{Broken, FAULTS};
+use reference::build::Way;
+use reference::compare::{Comparison, Volume};
+use reference::program::{Program, Reference};
+
+/// Whether a program passes, and what is printed.
+fn compared(program: &dyn Program) -> (bool, String) {
+    let real = vec![vec![1, 60, 3, 3, 3, 2, 900, 1, 1, 4, 4, 4, 5]];
+    let mut out = Vec::new();
+    let passed = Comparison::new(program, Volume::QUICK, 1, real, &mut out).run();
+    (passed, String::from_utf8(out).expect("text"))
+}
+
+#[test]
+fn a_right_program_passes() {
+    for way in [Way::Figure6, Way::FewerRanges] {
+        let (passed, out) = compared(&Reference(way));
+        assert!(passed && out.ends_with(" passed, 0 failed\n"), "{out}");
+        assert!(!out.contains("MISMATCH"), "{out}");
+    }
+}
+
+#[test]
+fn every_fault_is_found_in_its_call_and_nowhere_else() {
+    for (fault, call) in FAULTS {
+        let (passed, out) = compared(&Broken(fault));
+        assert!(!passed, "{fault:?} was not found");
+        assert!(!out.ends_with(" 0 failed\n"), "{fault:?}: {out}");
+        let failed: Vec<&str> = out.lines().filter_map(|line| line.strip_prefix("FAILED  ")).collect();
+        assert!(!failed.is_empty(), "{fault:?}: {out}");
+        assert!(failed.iter().all(|group| group.starts_with(call)), "{fault:?}: {failed:?}");
+    }
+}
