@@ -1,0 +1,46 @@
+/* Builds the histogram of a list of four entries, checks it, estimates three ranges and finds a bucket. */
+#include <inttypes.h>
+#include <qh.h>
+#include <stdio.h>
+
+#define ENTRIES 4
+
+static int refused(const char *call, uint32_t refusal) {
+    if (refusal != 0) {
+        printf("%s is refused with %" PRIu32 ": %s\n", call, refusal, qh_sentence(refusal));
+    }
+    return refusal != 0;
+}
+
+int main(void) {
+    const uint32_t freqs[ENTRIES] = {10, 10, 10, 10};
+    const uint32_t ranges[3][2] = {{1, 3}, {0, 3}, {0, 4}};
+    uint32_t words[QH_WORDS_FOR(ENTRIES)];
+
+    QhBuilt built = qh_build(freqs, ENTRIES, 1, 3, 2, words, QH_WORDS_FOR(ENTRIES));
+    if (refused("qh_build", built.refusal)) {
+        return 1;
+    }
+    printf("%zu words\n", built.words);
+
+    QhVerdict verdict = qh_check(freqs, ENTRIES, words, built.words);
+    if (refused("qh_check", verdict.refusal)) {
+        return 1;
+    }
+    printf("%s\n", verdict.accepted ? "accepted" : "not accepted");
+
+    for (int i = 0; i < 3; i++) {
+        QhEstimate answer = qh_estimate(words, built.words, ranges[i][0], ranges[i][1]);
+        if (refused("qh_estimate", answer.refusal)) {
+            return 1;
+        }
+        printf("%" PRIu32 " to %" PRIu32 ": %" PRIu64 "\n", ranges[i][0], ranges[i][1], answer.estimate);
+    }
+
+    QhFound found = qh_find(words, built.words, 3);
+    if (refused("qh_find", found.refusal)) {
+        return 1;
+    }
+    printf("the bucket of entry 3 begins with word %zu, %" PRIX32 "\n", found.at, words[found.at]);
+    return 0;
+}

@@ -1,0 +1,336 @@
+/*
+ * Calls the library with input that nobody should lend it. Each call must answer, or refuse by a known number with all
+ * else 0, and must leave alone what it is not to write. All of it is done twice: in the main thread, and in one with
+ * 512 KiB of stack. The words and bytes that are read have just their length in memory: valgrind sees a step beyond.
+ *
+ * hostile [VOLUME]: the entries of the list that is built, and how many random inputs are tried.
+ */
+#include <inttypes.h>
+#include <pthread.h>
+#include <qh.h>
+#include <stdbool.h>
+#include <stdio.h>
+#include <stdlib.h>
+#include <string.h>
+
+#define STACK ((size_t)512 * 1024)
+#define GUARD 16 /* elements on each side of a list that is written */
+#define MARK 0xA5
+
+static size_t volume = 400;
+static uint64_t state;               /* of the random numbers */
+static uint64_t calls, refused, bad; /* of the group that runs */
+static size_t passed, failed;        /* groups */
+
+/* The good histogram that the groups start from, its list, and an input of the exam sheet for that list. */
+static uint32_t *freqs, *words;
+static size_t words_len, text_len;
+static uint8_t *text;
+
+static void *lent(size_t size) {
+    void *list = malloc(size + (size == 0)); /* never null */
+    if (list == NULL) {
+        puts("no memory");
+        exit(1);
+    }
+    return list;
+}
+
+static void *copied(const void *from, size_t size) {
+    void *list = lent(size);
+    memcpy(list, from, size);
+    return list;
+}
+
+static uint32_t random_word(void) { /* xorshift64* */
+    state ^= state >> 12;
+    state ^= state << 25;
+    state ^= state >> 27;
+    return (uint32_t)((state * UINT64_C(2685821657736338717)) >> 32);
+}
+
+static void judge(const char *call, uint32_t refusal, bool as_said) {
+    calls++;
+    refused += refusal != 0;
+    if (!as_said || (refusal != 0 && qh_sentence(refusal) == NULL)) {
+        bad++;
+        printf("FAIL: call %" PRIu64 ", %s: expected an answer, or a known refusal with all else 0, and nothing more"
+               " written; got refusal %" PRIu32 " and not that\n", calls, call, refusal);
+    }
+}
+
+static void try_numbers(uint32_t number) {
+    QhCoded (*const coding[])(uint32_t) = {qh_class_of, qh_number_of_class, qh_code_of_total, qh_number_of_total};
+    for (size_t i = 0; i < 4; i++) {
+        QhCoded answer = coding[i](number);
+        judge("a coding call", answer.refusal, answer.refusal == 0 || answer.value == 0);
+    }
+}
+
+static void try_range(const uint32_t *list, size_t len, uint32_t x, uint32_t y) {
+    QhEstimate answer = qh_estimate(list, len, x, y);
+    judge("qh_estimate", answer.refusal, answer.refusal == 0 ? x <= y : answer.estimate == 0);
+    QhFound found = qh_find(list, len, x);
+    judge("qh_find", found.refusal, found.refusal == 0 ? found.at >= 4 && found.at + 5 <= len : found.at == 0);
+}
+
+static void try_check(const uint32_t *list, size_t list_len, const uint32_t *lent_words, size_t len) {
+    QhVerdict v = qh_check(list, list_len, lent_words, len);
+    bool range = v.sort >= 1 && v.sort <= 3 && v.start < v.end && v.end <= list_len;
+    bool none = v.sort == 0 && v.start == 0 && v.end == 0;
+    bool fails = v.refusal == 0 && v.accepted == 0 && range;
+    judge("qh_check", v.refusal, fails || (none && v.accepted == (v.refusal == 0)));
+}
+
+/* Every call that takes words. */
+static void try_words(const uint32_t *from, size_t len) {
+    uint32_t *list = copied(from, len * sizeof *from);
+    const uint32_t ends[] = {0, 1, (uint32_t)volume, (uint32_t)volume + 1, UINT32_MAX, random_word()};
+    for (size_t i = 0; i < 6; i++) {
+        try_range(list, len, ends[i], ends[5 - i]);
+    }
+    try_range(list, len, 0, (uint32_t)volume);
+    try_check(freqs, volume, list, len);
+    try_check(list, len, list, len);
+    free(list);
+}
+
+static bool marked(const void *from, const void *to) {
+    const uint8_t *byte = from, *end = to;
+    while (byte < end && *byte == MARK) {
+        byte++;
+    }
+    return byte == end;
+}
+
+/* Builds into a list between guards, and checks what was built. */
+static void try_build(const uint32_t *list, size_t len, uint32_t theta, uint32_t qn, uint32_t qd, size_t out_len) {
+    size_t size = (out_len + 2 * GUARD) * sizeof(uint32_t);
+    uint32_t *block = lent(size), *out = block + GUARD;
+    memset(block, MARK, size);
+    QhBuilt built = qh_build(list, len, theta, qn, qd, out, out_len);
+    bool kept = built.words <= out_len && marked(block, out) && marked(out + built.words, out + out_len + GUARD);
+    judge("qh_build", built.refusal, kept && (built.refusal == 0) == (built.words > 0));
+    if (built.refusal == 0) {
+        QhVerdict verdict = qh_check(list, len, out, built.words);
+        judge("qh_check of what was built", verdict.refusal, verdict.accepted == 1);
+    }
+    free(block);
+}
+
+static void try_sheet(const uint8_t *from, size_t len) {
+    const size_t block_size = QH_SHEET_BYTES + 2 * GUARD;
+    uint8_t *input = copied(from, len), *block = lent(block_size), *out = block + GUARD;
+    memset(block, MARK, block_size);
+    size_t size = qh_sheet(input, len, out);
+    bool kept = size <= QH_SHEET_BYTES && marked(block, out) && marked(out + size, out + QH_SHEET_BYTES + GUARD);
+    bool ended = kept && size > 0 && out[size - 1] == '\n';
+    bool is_refused = ended && size > 8 && memcmp(out, "refused ", 8) == 0;
+    judge("qh_sheet", is_refused ? (uint32_t)strtoul((char *)out + 8, NULL, 10) : 0, ended);
+    free(input);
+    free(block);
+}
+
+static void numbers(void) {
+    for (uint32_t bit = 0; bit < 32; bit++) {
+        for (uint32_t more = 0; more < 3; more++) {
+            try_numbers((UINT32_C(1) << bit) + more - 1);
+        }
+    }
+    for (size_t i = 0; i < volume; i++) {
+        try_numbers(random_word());
+        try_numbers(random_word() >> 20);
+    }
+}
+
+static void empty_list(uint32_t *list, uint8_t *bytes) {
+    uint8_t *out = lent(QH_SHEET_BYTES);
+    QhBuilt built = qh_build(list, 0, 1, 3, 2, list, 0);
+    judge("qh_build of no list", built.refusal, built.refusal == 1 && built.words == 0);
+    built = qh_build(freqs, volume, 1, 3, 2, list, 0);
+    judge("qh_build into no list", built.refusal, built.refusal == 6 && built.words == 0);
+    try_check(list, 0, list, 0);
+    try_check(list, 0, words, words_len);
+    try_check(freqs, volume, list, 0);
+    try_range(list, 0, 0, 0);
+    judge("qh_sheet of no input", 18, qh_sheet(bytes, 0, out) == 11 && memcmp(out, "refused 18\n", 11) == 0);
+    free(out);
+}
+
+static void empty_lists(void) {
+    void *list = lent(0);
+    empty_list((uint32_t *)list, (uint8_t *)list);
+    free(list);
+}
+
+static void null_lists(void) {
+    empty_list(NULL, NULL);
+}
+
+static void ranges(void) {
+    const uint32_t d = (uint32_t)volume;
+    const uint32_t ends[] = {0, 1, 2, d / 2, d - 1, d, d + 1, 65535, 65536, UINT32_C(1) << 31, UINT32_MAX};
+    for (size_t i = 0; i < sizeof ends / sizeof *ends; i++) {
+        for (size_t j = 0; j < sizeof ends / sizeof *ends; j++) {
+            try_range(words, words_len, ends[i], ends[j]);
+        }
+    }
+}
+
+static void random_words(void) {
+    for (size_t i = 0; i < volume; i++) {
+        size_t len = random_word() % 64;
+        uint32_t *list = lent(len * sizeof *list);
+        for (size_t j = 0; j < len; j++) {
+            list[j] = random_word() >> (random_word() % 32);
+        }
+        try_words(list, len);
+        try_build(list, len, 1, 3, 2, len);
+        free(list);
+    }
+}
+
+static void prefixes(void) {
+    for (size_t len = 0; len <= words_len; len++) {
+        try_words(words, len);
+    }
+}
+
+static void bits(void) {
+    for (size_t i = 0; i < 32 * words_len; i++) {
+        words[i / 32] ^= UINT32_C(1) << i % 32;
+        try_words(words, words_len);
+        words[i / 32] ^= UINT32_C(1) << i % 32;
+    }
+}
+
+static void lent_lengths(void) {
+    for (size_t len = 0; len <= words_len + 1; len++) {
+        try_build(freqs, volume, 4, 2, 1, len);
+    }
+}
+
+static void qualities(void) {
+    const uint32_t values[] = {0, 1, 3, 1000, 1001, 1048575, 1048576, UINT32_MAX};
+    for (size_t i = 0; i < 8 * 8 * 8; i++) {
+        try_build(freqs, volume < 64 ? volume : 64, values[i / 64], values[i / 8 % 8], values[i % 8], QH_WORDS_FOR(64));
+    }
+}
+
+static void long_lists(void) {
+    const size_t len = 65537;
+    const uint32_t values[] = {0, 1, 16384, UINT32_C(0xC0000000), UINT32_MAX};
+    uint32_t *list = lent(len * sizeof *list);
+    for (size_t v = 0; v < 5; v++) {
+        for (size_t i = 0; i < len; i++) {
+            list[i] = values[v];
+        }
+        try_build(list, len, 64, 2, 1, QH_WORDS_FOR(len));
+        try_check(list, len, list, len);
+        try_check(list, len - 1, list, len);
+        try_range(list, len, 0, UINT32_MAX);
+    }
+    for (size_t i = 0; i < len; i++) {
+        list[i] = 1 + random_word() % 1000;
+    }
+    try_build(list, len, 64, 2, 1, QH_WORDS_FOR(len));
+    try_build(list, len - 1, 64, 2, 1, QH_WORDS_FOR(len - 1));
+    memcpy(list, words, words_len * sizeof *list);
+    try_check(freqs, volume, list, len);
+    try_range(list, len, 0, 1);
+    free(list);
+}
+
+static void sheets(void) {
+    for (size_t len = 0; len <= text_len; len++) {
+        try_sheet(text, len);
+    }
+    for (size_t i = 0; i < 8 * text_len; i++) {
+        text[i / 8] ^= (uint8_t)(1 << i % 8);
+        try_sheet(text, text_len);
+        text[i / 8] ^= (uint8_t)(1 << i % 8);
+    }
+}
+
+static void random_bytes(void) {
+    for (size_t i = 0; i < volume; i++) {
+        size_t len = random_word() % 64;
+        uint8_t *input = lent(len);
+        for (size_t j = 0; j < len; j++) {
+            input[j] = (uint8_t)(i % 2 ? random_word() : (uint32_t)"0123456789\n\n"[random_word() % 12]);
+        }
+        try_sheet(input, len);
+        free(input);
+    }
+}
+
+static void *run(void *thread) {
+    const struct {
+        const char *name;
+        void (*run)(void);
+    } groups[] = {
+        {"numbers to be coded or read", numbers},
+        {"empty lists", empty_lists},
+        {"null pointers with length 0", null_lists},
+        {"ranges and entries beyond the list", ranges},
+        {"random words", random_words},
+        {"every prefix of a histogram", prefixes},
+        {"a histogram with every bit turned", bits},
+        {"lent lists of every length", lent_lengths},
+        {"theta and q", qualities},
+        {"lists of 65,537", long_lists},
+        {"every prefix of a sheet's input, and every bit turned", sheets},
+        {"a sheet of random bytes", random_bytes},
+    };
+    for (size_t i = 0; i < sizeof groups / sizeof *groups; i++) {
+        state = i + 1;
+        calls = refused = bad = 0;
+        groups[i].run();
+        passed += bad == 0;
+        failed += bad != 0;
+        printf("%s: %s, %s: %" PRIu64 " calls, %" PRIu64 " refused\n", bad == 0 ? "ok" : "FAIL", (const char *)thread,
+               groups[i].name, calls, refused);
+    }
+    return NULL;
+}
+
+static void prepare(void) {
+    freqs = lent(volume * sizeof *freqs);
+    text = lent(8 + 2 * volume);
+    text_len = (size_t)sprintf((char *)text, "4\n2\n1\n");
+    for (size_t i = 0; i < volume; i++) {
+        freqs[i] = 1 + (random_word() % 64) / 8;
+        text_len += (size_t)sprintf((char *)text + text_len, "%" PRIu32 "\n", freqs[i]);
+    }
+    uint32_t *out = lent(QH_WORDS_FOR(volume) * sizeof *out);
+    words_len = qh_build(freqs, volume, 4, 2, 1, out, QH_WORDS_FOR(volume)).words;
+    words = copied(out, words_len * sizeof *out);
+    free(out);
+}
+
+int main(int count, char **arguments) {
+    if (count > 1) {
+        volume = strtoul(arguments[1], NULL, 10);
+    }
+    if (volume < 8 || volume > 4096) {
+        puts("VOLUME is 8 to 4096");
+        return 1;
+    }
+    state = 1;
+    prepare();
+
+    pthread_attr_t small;
+    pthread_t thread;
+    char main_thread[] = "main thread", small_thread[] = "512 KiB of stack";
+    run(main_thread);
+    if (pthread_attr_init(&small) != 0 || pthread_attr_setstacksize(&small, STACK) != 0 ||
+        pthread_create(&thread, &small, run, small_thread) != 0 || pthread_join(thread, NULL) != 0) {
+        puts("FAIL: no thread with 512 KiB of stack");
+        failed++;
+    }
+    free(freqs);
+    free(words);
+    free(text);
+    printf("%zu passed, %zu failed\n", passed, failed);
+    return failed != 0;
+}

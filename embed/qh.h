@@ -1,0 +1,149 @@
+/*
+ * qh.h: histograms of a word list, with estimates that keep a stated factor. To be linked with libqh.a.
+ *
+ * An e-book reader carries one ordered list of word forms, each with the number of times it occurs. qh_build makes a
+ * small histogram of the list; qh_estimate then says from that alone about how many hits a range of forms has.
+ * qh_check tells whether a histogram is fit for a list, and qh_find which of its buckets holds an entry.
+ *
+ * The terms
+ *   entry      the place of a word form in the list, 0 to d - 1, where d is the length of the list
+ *   range      from x to y: the entries from x up to y, without y; its count is the sum of their frequencies
+ *   theta, q   how close the estimates come: theta is 1 to 1,048,575; q is qn / qd, both 1 to 1,000, at least 5/4
+ *   bucket     a stretch of the list with a total, in eight bucketlets, each with a number for its entries together
+ *   histogram  a list of words, four at the head and five for each bucket (document 01, "Words"). They are numbers:
+ *              a program that stores them as bytes minds the order of the bytes itself.
+ *
+ * How close they come
+ *   The histograms of qh_build, and all others that qh_check accepts for the list, keep this for every range within
+ *   the list and every whole k of at least 3: where the count or the estimate is above k * theta, the count is at most
+ *   f times the estimate and the estimate less 1 is below f times the count, with f = q * k / (k - 2).
+ *
+ * For every call
+ *   - There is nothing to test beforehand: each call answers every input, and none has a condition but those under
+ *     "Outside the proof". The result comes by value.
+ *   - refusal is 0, or the number of a sentence of the table below that is true of the input: the first in the order
+ *     that stands at the call. Then all else in the result is 0 and no lent list has changed.
+ *   - Every list is the caller's before, during and after the call: a pointer to the first of so many elements. Only
+ *     the list `out` of qh_build and of qh_sheet is written, and only as far as its result says.
+ *   - Nothing is kept between calls and no memory is allocated, so threads may call at once. Of the C library only
+ *     memcpy and memset are used.
+ *   - A call takes less than 512 KiB of stack. That is tested, not proved.
+ *
+ * Outside the proof
+ *   - a null pointer with a length above 0, a length that is not the list's, an `out` that overlaps another list, and
+ *     a list that another thread writes during the call: what happens then is not known;
+ *   - a null pointer with length 0. An empty list has length 0 and any pointer that is not null; the tests see that a
+ *     null pointer is answered in the same way;
+ *   - faults of the compiler, the linker and the machine, and qh_sentence, which is plain C.
+ */
+#ifndef QH_H
+#define QH_H
+
+#include <stddef.h>
+#include <stdint.h>
+
+#ifdef __cplusplus
+extern "C" {
+#endif
+
+/* The most words that the histogram of d entries has: a bucket for each eight entries and one for the rest. */
+#define QH_WORDS_FOR(d) ((size_t)4 + (size_t)5 * (((size_t)(d) + 7) / 8))
+
+/* The length of the list `out` of qh_sheet, in bytes. */
+#define QH_SHEET_BYTES 163840
+
+/* The table of refusals: the sentence of a refusal, NULL for any other number. */
+static inline const char *qh_sentence(uint32_t refusal) {
+    switch (refusal) {
+    case 1: return "The frequency list has no entry or more than 65,536.";
+    case 2: return "A frequency is 0.";
+    case 3: return "The frequencies sum to more than 1,073,741,823.";
+    case 4: return "Theta is outside its limits.";
+    case 5: return "q is outside its limits.";
+    case 6: return "The lent word list is shorter than the histogram.";
+    case 7: return "There are fewer than four words, or a head word breaks its layout or limits.";
+    case 8: return "The length is not 4 plus 5 times the buckets.";
+    case 9: return "A bucket word has a wrong kind or a set bit outside its fields.";
+    case 10: return "The first start is not 0, or a start is not above the one before it, or not below d.";
+    case 11: return "The listed widths exceed their bucket, or the free width is above 4,095.";
+    case 12: return "A class is 2 or 63, a class is 0 where the width is not or the reverse, or a total code is not valid.";
+    case 13: return "The frequency list is not d long.";
+    case 14: return "x is above y, or y is above d.";
+    case 15: return "The entry is not below d.";
+    case 16: return "A count to be coded, as class or total, is 0 or above 1,073,741,823.";
+    case 17: return "A class to be read is 0, 2, 63 or above, or a total code to be read is not valid.";
+    case 18: return "The listing program's input is not as described next.";
+    default: return NULL;
+    }
+}
+
+typedef struct {
+    uint32_t refusal;
+    size_t words; /* how many words stand in out */
+} QhBuilt;
+
+/* Writes the histogram of a list, each bucketlet as wide as theta, q and the layout allow, to the start of out; the
+ * words of out after it are as they were. An out of QH_WORDS_FOR(freqs_len) words is never too short.
+ * Refused with 1 to 6. */
+QhBuilt qh_build(const uint32_t *freqs, size_t freqs_len, uint32_t theta, uint32_t qn, uint32_t qd,
+                 uint32_t *out, size_t out_len);
+
+typedef struct {
+    uint32_t refusal;
+    uint32_t accepted; /* 1: accepted, and the rest is 0; 0: the rest says what fails first */
+    uint32_t sort;     /* 1: a whole bucketlet, 2: a part of one, 3: the total of a bucket */
+    uint32_t start;    /* the range that fails, from start to end */
+    uint32_t end;
+} QhVerdict;
+
+/* Whether the histogram is accepted for the list: the number of each bucketlet and the total of each bucket is within
+ * the factor q of the count, and so is, for a part of a bucketlet, its share of the number, unless it and the count are
+ * at most theta. What fails is looked for bucket by bucket: in each bucketlet by start and then by end, the total last.
+ * Refused with 1 to 3, then 7 to 13. */
+QhVerdict qh_check(const uint32_t *freqs, size_t freqs_len, const uint32_t *words, size_t words_len);
+
+typedef struct {
+    uint32_t refusal;
+    uint64_t estimate;
+} QhEstimate;
+
+/* The estimated count of the range from x to y: the totals of the buckets that lie wholly in it, the numbers of the
+ * other bucketlets that do, and the share of each bucketlet that it cuts, all in one sum that is rounded up; 0 if it is
+ * empty. Refused with 7 to 12, then 14. */
+QhEstimate qh_estimate(const uint32_t *words, size_t words_len, uint32_t x, uint32_t y);
+
+typedef struct {
+    uint32_t refusal;
+    size_t at;
+} QhFound;
+
+/* The bucket of an entry: its five words are words[at] to words[at + 4]. Refused with 7 to 12, then 15. */
+QhFound qh_find(const uint32_t *words, size_t words_len, uint32_t entry);
+
+typedef struct {
+    uint32_t refusal;
+    uint32_t value;
+} QhCoded;
+
+/* How counts are written small. A count v has the class c with (7/5)^(c-1) <= v < (7/5)^c, and c stands for the largest
+ * whole r with r^2 <= (7/5)^(2c-1). A total has the code 32 * b + s: from 128 on b is its seven highest bits and s the
+ * number of bits below them, else b is the total and s is 0; the code stands for b * 2^s + m with the largest whole m
+ * for which (m + 2^s)^2 <= 2^(2s+1). The two that code are refused with 16, the two that read with 17. */
+QhCoded qh_class_of(uint32_t count);
+QhCoded qh_number_of_class(uint32_t class_);
+QhCoded qh_code_of_total(uint32_t total);
+QhCoded qh_number_of_total(uint32_t code);
+
+/* Writes the exam sheet of an input to the start of out, which has QH_SHEET_BYTES bytes, and answers how many it wrote;
+ * those after them are as they were. The input is decimal numbers below 4,294,967,296, one a line, without leading
+ * zeros, each line ended by a line feed: theta, qn, qd and 1 to 4,096 frequencies. The sheet has a line of d, theta, q
+ * and the number of buckets; for each bucket one of its start, end, total code and the code's number; and after it, for
+ * each of its bucketlets that is not empty, one of its start, end, class and the class's number. Where the input is not
+ * so (18), or qh_build would refuse what it holds (2 to 5), the sheet is one line, `refused` and the number. */
+size_t qh_sheet(const uint8_t *input, size_t input_len, uint8_t *out);
+
+#ifdef __cplusplus
+}
+#endif
+
+#endif

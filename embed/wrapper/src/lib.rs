@@ -1,0 +1,200 @@
+//! The calls of `qh.h` for Rust: each as that header describes it, with a `Result` for the refusal.
+//!
+//! ```
+//! let words = qh::build(&[10, 10, 10, 10], 1, 3, 2)?;
+//! assert_eq!(qh::estimate(&words, 1, 3)?, 17);
+//! assert_eq!(qh::estimate(&words, 4, 5).unwrap_err().to_string(), "x is above y, or y is above d.");
+//! # Ok::<(), qh::Refusal>(())
+//! ```
+
+mod raw;
+
+use raw::*;
+use std::fmt;
+
+/// Why a call was turned away; it is shown as the sentence that `qh.h` has for its number.
+#[derive(Clone, Copy, Debug, PartialEq, Eq)]
+pub struct Refusal(pub u32);
+
+impl fmt::Display for Refusal {
+    fn fmt(&self, f: &mut fmt::Formatter<'_>) -> fmt::Result {
+        let case = format!("case {}: return \"", self.0);
+        let mut lines = include_str!("../../qh.h").lines();
+        match lines.find_map(|line| line.trim_start().strip_prefix(&case)?.strip_suffix("\";")) {
+            Some(sentence) => f.write_str(sentence),
+            None => write!(f, "{} is no refusal", self.0),
+        }
+    }
+}
+
+impl std::error::Error for Refusal {}
+
+/// What `check` says of a histogram and a list.
+#[derive(Clone, Copy, Debug, PartialEq, Eq)]
+pub enum Verdict {
+    /// The histogram is accepted for the list.
+    Accepted,
+    /// It is not; this fails first.
+    Fails {
+        /// What the range is to the histogram.
+        sort: Sort,
+        /// The first entry of the range.
+        start: u32,
+        /// The entry after its last.
+        end: u32,
+    },
+}
+
+/// What fails in a histogram.
+#[derive(Clone, Copy, Debug, PartialEq, Eq)]
+pub enum Sort {
+    /// A whole bucketlet.
+    Bucketlet,
+    /// A part of a bucketlet.
+    Part,
+    /// The total of a bucket.
+    Bucket,
+}
+
+fn answer<T>(refusal: u32, value: T) -> Result<T, Refusal> {
+    match refusal {
+        0 => Ok(value),
+        number => Err(Refusal(number)),
+    }
+}
+
+fn coded(coded: QhCoded) -> Result<u32, Refusal> {
+    answer(coded.refusal, coded.value)
+}
+
+// SAFETY of each call below: it takes numbers, and pointers and lengths of whole slices that
+// outlive the call; the one that is written is lent to nobody else.
+
+/// The words of the histogram of a list.
+///
+/// ```
+/// use qh::{build, Refusal};
+/// let words = build(&[10, 10, 10, 10], 1, 3, 2)?;
+/// assert_eq!(words, [4, 1, 0xC02, 1, 0x40000204, 0x8B000000, 0x80000500, 0xC0000000, 0xC0000000]);
+/// let words = build(&[1, 100], 1, 3, 2)?;
+/// assert_eq!(words[4..], [0x40000201, 0x81380000, 0x80000CA0, 0xC0040000, 0xC0000000]);
+///
+/// let second_class = |words: &[u32]| words[5] >> 18 & 63;
+/// assert_ne!(second_class(&build(&[1, 100], 99, 3, 2)?), 0);
+/// assert_eq!(second_class(&build(&[1, 100], 100, 3, 2)?), 0);
+///
+/// assert!(build(&[1], 1, 5, 4).is_ok());
+/// assert_eq!(build(&[1], 1, 124, 100), Err(Refusal(5)));
+/// assert!(build(&[1_073_741_823], 1, 3, 2).is_ok());
+/// assert_eq!(build(&[1_073_741_823, 1], 1, 3, 2), Err(Refusal(3)));
+///
+/// // No bucketlet can be wider than one entry here, and there is still room for the words.
+/// assert_eq!(build(&[1, 100, 1, 100, 1, 100, 1, 100, 1], 1, 3, 2)?.len(), 14);
+/// # Ok::<(), Refusal>(())
+/// ```
+pub fn build(freqs: &[u32], theta: u32, qn: u32, qd: u32) -> Result<Vec<u32>, Refusal> {
+    let mut words = vec![0; 4 + 5 * freqs.len().div_ceil(8)]; // QH_WORDS_FOR
+    let (list, out, out_len) = (freqs.as_ptr(), words.as_mut_ptr(), words.len());
+    let built = unsafe { qh_build(list, freqs.len(), theta, qn, qd, out, out_len) };
+    words.truncate(built.words);
+    answer(built.refusal, words)
+}
+
+/// Whether a histogram is accepted for a list, and else what fails first.
+///
+/// ```
+/// use qh::{build, check, Refusal, Sort, Verdict};
+/// let words = build(&[10, 10, 10, 10], 1, 3, 2)?;
+/// assert_eq!(check(&[10, 10, 10, 10], &words)?, Verdict::Accepted);
+/// let fails = Verdict::Fails { sort: Sort::Bucketlet, start: 0, end: 4 };
+/// assert_eq!(check(&[10, 10, 10, 100], &words)?, fails);
+/// assert_eq!(check(&[10, 10, 10], &words), Err(Refusal(13)));
+/// # Ok::<(), Refusal>(())
+/// ```
+pub fn check(freqs: &[u32], words: &[u32]) -> Result<Verdict, Refusal> {
+    let verdict = unsafe { qh_check(freqs.as_ptr(), freqs.len(), words.as_ptr(), words.len()) };
+    let fails = |sort| Verdict::Fails { sort, start: verdict.start, end: verdict.end };
+    let value = match (verdict.accepted, verdict.sort) {
+        (1, _) => Verdict::Accepted,
+        (_, 1) => fails(Sort::Bucketlet),
+        (_, 2) => fails(Sort::Part),
+        _ => fails(Sort::Bucket),
+    };
+    answer(verdict.refusal, value)
+}
+
+/// The estimated count of the entries from x up to y, without y.
+///
+/// ```
+/// use qh::{build, estimate, Refusal};
+/// let words = build(&[10, 10, 10, 10], 1, 3, 2)?;
+/// assert_eq!(estimate(&words, 1, 3)?, 17);
+/// assert_eq!(estimate(&words, 0, 3)?, 26);
+/// assert_eq!(estimate(&words, 0, 4)?, 40);
+/// assert_eq!(estimate(&words, 2, 2)?, 0);
+/// assert_eq!(estimate(&words, 4, 4)?, 0);
+/// assert_eq!(estimate(&words, 4, 5), Err(Refusal(14)));
+/// # Ok::<(), Refusal>(())
+/// ```
+pub fn estimate(words: &[u32], x: u32, y: u32) -> Result<u64, Refusal> {
+    let asked = unsafe { qh_estimate(words.as_ptr(), words.len(), x, y) };
+    answer(asked.refusal, asked.estimate)
+}
+
+/// The words of the bucket that holds an entry.
+///
+/// ```
+/// use qh::{build, find, Refusal};
+/// let words = build(&[10, 10, 10, 10], 1, 3, 2)?;
+/// assert_eq!(find(&words, 3)?, &words[4..]);
+/// assert_eq!(find(&words, 4), Err(Refusal(15)));
+/// # Ok::<(), Refusal>(())
+/// ```
+pub fn find(words: &[u32], entry: u32) -> Result<&[u32], Refusal> {
+    let found = unsafe { qh_find(words.as_ptr(), words.len(), entry) };
+    answer(found.refusal, found.at).map(|at| &words[at..at + 5])
+}
+
+/// The class of a count.
+///
+/// ```
+/// use qh::{class_of, Refusal};
+/// assert_eq!([1, 2, 5, 10, 11, 100].map(class_of), [1, 3, 5, 7, 8, 14].map(Ok));
+/// assert_eq!(class_of(0), Err(Refusal(16)));
+/// ```
+pub fn class_of(count: u32) -> Result<u32, Refusal> {
+    coded(unsafe { qh_class_of(count) })
+}
+
+/// The number that a class stands for.
+///
+/// ```
+/// use qh::{number_of_class, Refusal};
+/// assert_eq!([1, 3, 5, 7, 8, 14, 11].map(number_of_class), [1, 2, 4, 8, 12, 93, 34].map(Ok));
+/// assert_eq!([0, 2, 63].map(number_of_class), [Err(Refusal(17)); 3]);
+/// ```
+pub fn number_of_class(class: u32) -> Result<u32, Refusal> {
+    coded(unsafe { qh_number_of_class(class) })
+}
+
+/// The code of a total.
+///
+/// ```
+/// use qh::{code_of_total, Refusal};
+/// assert_eq!([127, 128, 1000].map(code_of_total), [4064, 2049, 4003].map(Ok));
+/// assert_eq!(code_of_total(1_073_741_824), Err(Refusal(16)));
+/// ```
+pub fn code_of_total(total: u32) -> Result<u32, Refusal> {
+    coded(unsafe { qh_code_of_total(total) })
+}
+
+/// The number that a total code stands for.
+///
+/// ```
+/// use qh::{number_of_total, Refusal};
+/// assert_eq!([4064, 2049, 4003].map(number_of_total), [127, 128, 1003].map(Ok));
+/// assert_eq!(number_of_total(0), Err(Refusal(17)));
+/// ```
+pub fn number_of_total(code: u32) -> Result<u32, Refusal> {
+    coded(unsafe { qh_number_of_total(code) })
+}

@@ -1,0 +1,53 @@
+//! The structs and calls of qh.h.
+
+#[repr(C)]
+pub struct QhBuilt {
+    pub refusal: u32,
+    pub words: usize,
+}
+
+#[repr(C)]
+pub struct QhVerdict {
+    pub refusal: u32,
+    pub accepted: u32,
+    pub sort: u32,
+    pub start: u32,
+    pub end: u32,
+}
+
+#[repr(C)]
+pub struct QhEstimate {
+    pub refusal: u32,
+    pub estimate: u64,
+}
+
+#[repr(C)]
+pub struct QhFound {
+    pub refusal: u32,
+    pub at: usize,
+}
+
+#[repr(C)]
+pub struct QhCoded {
+    pub refusal: u32,
+    pub value: u32,
+}
+
+extern "C" {
+    pub fn qh_build(
+        freqs: *const u32,
+        freqs_len: usize,
+        theta: u32,
+        qn: u32,
+        qd: u32,
+        out: *mut u32,
+        out_len: usize,
+    ) -> QhBuilt;
+    pub fn qh_check(freqs: *const u32, freqs_len: usize, words: *const u32, words_len: usize) -> QhVerdict;
+    pub fn qh_estimate(words: *const u32, words_len: usize, x: u32, y: u32) -> QhEstimate;
+    pub fn qh_find(words: *const u32, words_len: usize, entry: u32) -> QhFound;
+    pub fn qh_class_of(count: u32) -> QhCoded;
+    pub fn qh_number_of_class(class: u32) -> QhCoded;
+    pub fn qh_code_of_total(total: u32) -> QhCoded;
+    pub fn qh_number_of_total(code: u32) -> QhCoded;
+}
