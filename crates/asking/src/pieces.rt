@@ -12,7 +12,7 @@ ghost use Rattle.layout.specs.Words.{buckets};
 ghost use Rattle.layout.specs.Reading.{Readable};
 ghost use Rattle.estimate.specs.Fraction.{plus};
 ghost use Rattle.estimate.specs.Exact.{inside, overlap, piece, bucketPiece, exact};
-ghost use Rattle.asking.specs.Asked.{Small, ClassIn};
+ghost use Rattle.asking.specs.Asked.{Small, ClassIn, Addable};
 
 fn wide(x: u32) -> u64
     ensures { λ r. ⌜ r ≡ x ⌝ }
@@ -107,6 +107,17 @@ fn piece_of(x: u32, y: u32, a: u32, w: u32, s: u64) -> Fraction
     }
 }
 
+// A sum and what a bucketlet at a, of width w and of a class, adds to it: nothing if the range holds no entry of it.
+fn with_piece(sum: Fraction, x: u32, y: u32, a: u32, w: u32, class: u32) -> Fraction
+    requires { ⌜ Addable sum x y a w class ⌝ }
+    ensures { λ r. ⌜ r ≡ plus sum (piece x y a w (classNumber base class)) ⌝ }
+{
+    if overlap_of(x, y, a, a + w) == 0 {
+        return sum;
+    }
+    plus(sum, piece_of(x, y, a, w, class_number(class)))
+}
+
 // What bucket b gives: its total if the range holds it, nothing if it holds no entry of it, else what its bucketlets give.
 fn bucket_piece(words: &[u32], x: u32, y: u32, b: usize) -> Fraction
     requires { ⌜ Readable (now words) × (b < buckets (now words)) ⌝ }
@@ -133,8 +144,7 @@ fn bucket_piece(words: &[u32], x: u32, y: u32, b: usize) -> Fraction
     let mut a = start;
     for k in 0..8usize {
         let w = bucket.widths[k];
-        let s = class_number(bucket.classes[k]);
-        sum = plus(sum, piece_of(x, y, a, w, s));
+        sum = with_piece(sum, x, y, a, w, bucket.classes[k]);
         a += w;
     }
     sum

@@ -4,18 +4,20 @@
 use mathlib.Core.Path.{_≡_, refl, sym, ap, _∙_}
 use mathlib.Core.Bool.{Bool, true, false, cond}
 use Prim.Native.Nat.{ℕ, suc, _+_, _-_, _*_, _/_, _%_, _^_, _≤_, _<_}
-use native.Mathlib.Nat.{mod-eq-of-lt, mul-le-mul, pow-succ'}
+use native.Mathlib.Nat.{mod-eq-of-lt, mul-le-mul, mul-le-mul-right, one-le-pow, pow-succ'}
 use native.Mathlib.Omega.{arith}
-use borrow.Author.Tests.{leb-true, le-leb}
-use lib.Dec.{leb}
+use borrow.Author.Tests.{leb-true, leb-false, eqb-true, eqb-false, le-leb}
+use lib.Dec.{leb, eqb}
 use lib.Bits.{bitOr, or-shifted}
 use lib.Count.{leadingZeros, leading-top}
 use lib.Pow.{pow-add, pow-mono}
+use Rattle.laws.specs.Each.{each}
+use Rattle.laws.proofs.EachLaws.{each-at}
 use Rattle.laws.proofs.Tests.{true-not-false, both, both-left, both-right, is-false, same-test}
 use Rattle.coding.specs.Base.{base, limit, countable, usedClass}
 use Rattle.coding.specs.Class.{classOf, classStart, classNumber}
 use Rattle.coding.specs.Total.{shift, bits, totalCode, middle, totalNumber, codeBits, codeShift, validFields, validCode}
-use Rattle.coding.proofs.ClassLaws.{Reached, class-eq, start-is, reached-up}
+use Rattle.coding.proofs.ClassLaws.{Reached, class-eq, start-is, reached-up, reached-down}
 use Rattle.coding.proofs.BaseLaws.{used-says, reached-by-two, reached-small}
 use Rattle.coding.proofs.TotalLaws.{Valid, shift-eq, shift-small, bits-small, valid-says, says-valid, number-small}
 use Rattle.tables.specs.Entries.{startOf, numberOf, middleOf}
@@ -86,6 +88,88 @@ last-reached v c h l r s =
     sym (class-eq base (omega arith) (omega arith) v c
     (record { least = h; reached = r; not-next = rw k at (start-is base (omega arith) (omega arith) (c + 1) .before v (rw e at s)) }))
 
+-- a class that begins after v has none after it that v reaches
+later-not : (v c : ℕ) → 1 ≤ c → c < 63 → v < startOf c → v < startOf (c + 1)
+later-not v c h l s =
+    let e = start-in c h (omega arith) in
+    let f = start-in (c + 1) (omega arith) (omega arith) in
+    let reach : startOf (c + 1) ≤ v → ⊥ =
+    λ g. let r = reached-up base (omega arith) (omega arith) (c + 1 - 1) _ v (rw f at g) (start-is base (omega arith) (omega arith) (c + 1) .reached) in
+    omega (arith, start-is base (omega arith) (omega arith) c .before v (rw e at s), reached-down base (omega arith) (omega arith) (c - 1) (c + 1 - 1) v (omega arith) r) in
+    omega (arith, reach)
+
+-- v is below the next power of two, which no class more than three further on begins below
+powers : each 30 (λ k. leb (2 ^ suc k * 5 ^ (2 * k + 4)) (7 ^ (2 * k + 4))) ≡ true
+unfolding each
+powers = refl
+
+fourth-not : (v k c : ℕ) → k < 30 → v < 2 ^ suc k → c ≡ 2 * k + 1 → v < startOf (c + 4)
+fourth-not v k c h l e =
+    let f = start-in (c + 4) (omega arith) (omega arith) in
+    let m : c + 4 - 1 ≡ 2 * k + 4 = omega arith in
+    let bound = leb-true (2 ^ suc k * 5 ^ (2 * k + 4)) (7 ^ (2 * k + 4)) (each-at 30 (λ k. leb (2 ^ suc k * 5 ^ (2 * k + 4)) (7 ^ (2 * k + 4))) powers k h) in
+    let less : suc v * 5 ^ (2 * k + 4) ≤ 2 ^ suc k * 5 ^ (2 * k + 4) = mul-le-mul-right (5 ^ (2 * k + 4)) l in
+    let some = one-le-pow (2 * k + 4) 5 (omega arith) in
+    let reach : startOf (c + 4) ≤ v → ⊥ =
+    λ g. let r : Reached base (2 * k + 4) v =
+    rw m at (reached-up base (omega arith) (omega arith) (c + 4 - 1) _ v (rw f at g) (start-is base (omega arith) (omega arith) (c + 4) .reached)) in
+    omega (arith, r, bound, less, some) in
+    omega (arith, reach)
+
+-- the class is the first guess and one more for each of the next three that v reaches
+pub counted-class : (v c a b d : ℕ) → 1 ≤ v → v ≤ limit → c ≡ 2 * (31 - leadingZeros 32 v) + 1 → a ≡ cond (leb (startOf (c + 1)) v) 1 0
+    → b ≡ cond (leb (startOf (c + 2)) v) 1 0 → d ≡ cond (leb (startOf (c + 3)) v) 1 0 → c + a + b + d ≡ classOf base v
+counted-class v c a b d h l e ea eb ed = go _ _ _ refl refl refl ea eb ed
+  where
+    top : Top v (31 - leadingZeros 32 v)
+    top = zeros-top v h (omega arith) .1
+
+    first : (1 ≤ c) × (c ≤ 62) × Reached base (c - 1) v
+    first = guess v c h l e
+
+    far : 31 - leadingZeros 32 v < 30
+    far = let g : 30 ≤ 31 - leadingZeros 32 v → ⊥ = λ g. omega (arith, top .from, pow-mono {i = 30} {j = 31 - leadingZeros 32 v} g) in omega (arith, g)
+
+    -- v is in class n or above it, and before the next
+    is-class : (n m : ℕ) → m ≡ n + 1 → 1 ≤ n → n ≤ 62 → Reached base (n - 1) v → v < startOf m → n ≡ classOf base v
+    is-class n m q o p r s = last-reached v n o p r (rw q at s)
+
+    next : (n m : ℕ) → m ≡ n + 1 → 1 ≤ n → n ≤ 62 → startOf m ≤ v → (m ≤ 62) × Reached base (m - 1) v
+    next n m q o p s = let r = next-reached v n o p l (rw q at s) in rw q r
+
+    after : (n m : ℕ) → m ≡ n + 1 → 1 ≤ n → n < 63 → v < startOf n → v < startOf m
+    after n m q o p s = rw q (later-not v n o p s)
+
+    go : (t u w : Bool) → leb (startOf (c + 1)) v ≡ t → leb (startOf (c + 2)) v ≡ u → leb (startOf (c + 3)) v ≡ w
+        → a ≡ cond t 1 0 → b ≡ cond u 1 0 → d ≡ cond w 1 0 → c + a + b + d ≡ classOf base v
+    go true true true q r s ea eb ed =
+        let one = next c (c + 1) (omega arith) (first .0) (first .1) (leb-true _ _ q) in
+        let two = next (c + 1) (c + 2) (omega arith) (omega arith) (one .0) (leb-true _ _ r) in
+        let three = next (c + 2) (c + 3) (omega arith) (omega arith) (two .0) (leb-true _ _ s) in
+        let is = is-class (c + 3) (c + 4) (omega arith) (omega arith) (three .0) (three .1) (fourth-not v (31 - leadingZeros 32 v) c far (top .to) e) in
+        omega (arith, ea, eb, ed, is)
+    go true true false q r s ea eb ed =
+        let one = next c (c + 1) (omega arith) (first .0) (first .1) (leb-true _ _ q) in
+        let two = next (c + 1) (c + 2) (omega arith) (omega arith) (one .0) (leb-true _ _ r) in
+        let is = is-class (c + 2) (c + 3) (omega arith) (omega arith) (two .0) (two .1) (leb-false _ _ s) in
+        omega (arith, ea, eb, ed, is)
+    go true false true q r s ea eb ed =
+        let third = after (c + 2) (c + 3) (omega arith) (omega arith) (omega (arith, far, e)) (leb-false _ _ r) in
+        absurd (omega (arith, third, leb-true (startOf (c + 3)) v s))
+    go true false false q r s ea eb ed =
+        let one = next c (c + 1) (omega arith) (first .0) (first .1) (leb-true _ _ q) in
+        let is = is-class (c + 1) (c + 2) (omega arith) (omega arith) (one .0) (one .1) (leb-false _ _ r) in
+        omega (arith, ea, eb, ed, is)
+    go false true w q r s ea eb ed =
+        let second = after (c + 1) (c + 2) (omega arith) (omega arith) (omega (arith, far, e)) (leb-false _ _ q) in
+        absurd (omega (arith, second, leb-true (startOf (c + 2)) v r))
+    go false false true q r s ea eb ed =
+        let third = after (c + 2) (c + 3) (omega arith) (omega arith) (omega (arith, far, e)) (leb-false _ _ r) in
+        absurd (omega (arith, third, leb-true (startOf (c + 3)) v s))
+    go false false false q r s ea eb ed =
+        let is = is-class c (c + 1) (omega arith) (first .0) (first .1) (first .2) (leb-false _ _ q) in
+        omega (arith, ea, eb, ed, is)
+
 pub number-in : (c : ℕ) → usedClass c ≡ true → numberOf c ≡ classNumber base c
 unfolding numberOf
 number-in c t = simp t
@@ -121,6 +205,14 @@ unfolding bits
 bits-shifted t s e = rw e (refl, bits-small t)
 
 -- ---- the number of a total code
+
+-- the least bits are 1 without a shift and 64 under one
+pub least-is : (s m : ℕ) → m ≡ cond (eqb s 0) 1 64 → (1 ≤ m) × (m ≤ 64) × (1 ≤ s → m ≡ 64) × (s ≡ 0 → m ≡ 1)
+least-is s m e = go (eqb s 0) refl e
+  where
+    go : (t : Bool) → eqb s 0 ≡ t → m ≡ cond t 1 64 → (1 ≤ m) × (m ≤ 64) × (1 ≤ s → m ≡ 64) × (s ≡ 0 → m ≡ 1)
+    go true q f = let z = eqb-true s 0 q in (omega (arith, f), omega (arith, f), λ h. absurd (omega (arith, z, h)), λ _. f)
+    go false q f = (omega (arith, f), omega (arith, f), λ _. f, λ z. absurd (eqb-false s 0 q z))
 
 -- a test is that of validity if it holds exactly then
 pub valid-by : (t : Bool) (b s : ℕ) → (t ≡ true → Valid b s) → (Valid b s → t ≡ true) → t ≡ validFields b s

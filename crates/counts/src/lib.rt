@@ -1,10 +1,13 @@
 // The coding of counts: the class and the total code of a count, and the numbers that they stand for.
 
 ghost use mathlib.Core.Path.{_≡_};
+ghost use mathlib.Core.Bool.{cond};
 ghost use Prim.Native.Nat.{_≤_, _<_};
+ghost use lib.Dec.{leb, eqb};
 ghost use Rattle.coding.specs.Base.{base, limit};
 ghost use Rattle.coding.specs.Class.{classOf};
 ghost use Rattle.coding.specs.Total.{shift, validFields, validCode};
+ghost use Rattle.tables.specs.Entries.{startOf};
 ghost use Rattle.counts.specs.Reply.{codedReply, meaningReply};
 ghost use Rattle.counts.specs.Reply.{classReply, classMeaning, totalReply, totalMeaning};
 
@@ -23,16 +26,25 @@ pub enum Meaning {
     Refused,
 }
 
-// The class of a count. Two classes make less than one power of two, so the search starts at most three classes below.
+// 1 if a count is in a class or above it, else 0.
+fn reached(class: u32, count: u32) -> u32
+    ensures { λ r. ⌜ (r ≡ cond (leb (startOf class) count) 1 0) × (r ≤ 1) ⌝ }
+{
+    if tables::class_start(class) <= count {
+        1
+    } else {
+        0
+    }
+}
+
+// The class of a count. Two classes make less than one power of two, so it is at most three classes above that of the power; counting those that
+// are reached needs no loop.
 fn class_search(count: u32) -> u32
     requires { ⌜ (1 ≤ count) × (count ≤ limit) ⌝ }
     ensures { λ r. ⌜ r ≡ classOf base count ⌝ }
 {
-    let mut class = 2 * (31 - u32::leading_zeros(count)) + 1;
-    while tables::class_start(class + 1) <= count {
-        class += 1;
-    }
-    class
+    let least = 2 * (31 - u32::leading_zeros(count)) + 1;
+    least + reached(least + 1, count) + reached(least + 2, count) + reached(least + 3, count)
 }
 
 // The class of a count, or 16.
@@ -88,6 +100,13 @@ pub fn code_of_total(total: u32) -> Coded
     Coded::Code(((total >> shift) << 5) | shift)
 }
 
+// The least bits under a shift.
+fn least_bits(shift: u32) -> u32
+    ensures { λ r. ⌜ r ≡ cond (eqb shift 0) 1 64 ⌝ }
+{
+    if shift == 0 { 1 } else { 64 }
+}
+
 // Whether the two fields are those of a valid total code.
 fn is_valid(bits: u32, shift: u32) -> bool
     ensures { λ r. ⌜ r ≡ validFields bits shift ⌝ }
@@ -98,10 +117,7 @@ fn is_valid(bits: u32, shift: u32) -> bool
     if 23 < shift {
         return false;
     }
-    if shift == 0 {
-        return 1 <= bits;
-    }
-    64 <= bits
+    least_bits(shift) <= bits
 }
 
 // Whether a code is a valid total code.

@@ -33,7 +33,7 @@ rounded-whole e p z = omega (arith, rounded-reaches e p, mul-le-mul-right (e .bo
 same : (a b : Fraction) → a .whole ≡ b .whole → a .top ≡ b .top → a .bottom ≡ b .bottom → a ≡ b
 same a b p q r = λ i. record { whole = p i; top = q i; bottom = r i }
 
-plus-nothing : (e : Fraction) → plus e nothing ≡ e
+pub plus-nothing : (e : Fraction) → plus e nothing ≡ e
 plus-nothing e = same (plus e nothing) e (omega arith) (omega arith) (omega arith)
 
 nothing-plus : (e : Fraction) → plus nothing e ≡ e

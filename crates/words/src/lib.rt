@@ -56,8 +56,8 @@ fn bucket_word(words: &[u32], b: usize, j: usize) -> u32
     }
 }
 
-// The five words of bucket b.
-pub fn five_at(words: &[u32], b: usize) -> [u32; 5]
+// The five words of bucket b, of which some may be past the end.
+fn five_or_zeros(words: &[u32], b: usize) -> [u32; 5]
     ensures { λ r. ⌜ r ≡ fiveWords (now (words .entry)) b ⌝ }
 {
     [
@@ -66,6 +66,26 @@ pub fn five_at(words: &[u32], b: usize) -> [u32; 5]
         bucket_word(words, b, 2),
         bucket_word(words, b, 3),
         bucket_word(words, b, 4),
+    ]
+}
+
+// The five words of bucket b. Where all are in the list, one test serves them.
+pub fn five_at(words: &[u32], b: usize) -> [u32; 5]
+    ensures { λ r. ⌜ r ≡ fiveWords (now (words .entry)) b ⌝ }
+{
+    if words.len() <= b {
+        return five_or_zeros(words, b);
+    }
+    let at = HEAD_WORDS + BUCKET_WORDS * b;
+    if words.len() < at + BUCKET_WORDS {
+        return five_or_zeros(words, b);
+    }
+    [
+        words[at],
+        words[at + 1],
+        words[at + 2],
+        words[at + 3],
+        words[at + 4],
     ]
 }
 

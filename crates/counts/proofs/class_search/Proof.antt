@@ -1,70 +1,69 @@
--- `counts::class_search` meets its contract. At the loop the count reaches the class in hand, which is one in use; it ends where the next begins after the count.
--- Assumes nothing.
-use Prim.Native.Nat.{_-_, _≤_}
+-- `counts::class_search` meets its contract: it is the class after the power that the highest bit reaches, and one more for each of the next three
+-- that the count reaches. Assumes nothing.
 use native.Mathlib.Omega.{arith}
+use Prim.Native.Nat.{_+_, _-_, _*_}
 use borrow.Author.Needs.{needs}
-use Rattle.coding.specs.Base.{base}
-use Rattle.coding.proofs.ClassLaws.{Reached}
-use Rattle.counts.proofs.CountLaws.{zeros-top, guess, next-reached, last-reached}
+use lib.Count.{leadingZeros}
+use mathlib.Core.Path.{refl}
+use Rattle.counts.proofs.CountLaws.{zeros-top, counted-class}
 use Rattle.counts.proofs.class_search.Statement.{statement}
 use Rattle.counts.proofs.class_search.Tie as tie
 
-abbrev Inv-loop : tie.InvT-loop
-Inv-loop count class₀ class = (1 ≤ class) × (class ≤ 62) × Reached base (class - 1) count
+sub-least : tie.Need-sub-least
+sub-least c = omega (arith, zeros-top (c .args .count) (omega arith) (omega arith))
 
-abbrev μ-loop : tie.MeasureT-loop
-μ-loop count class₀ class = 63 - class
+mul-least : tie.Need-mul-least
+mul-least c = search needs
 
-sub-class : tie.Need-sub-class Inv-loop μ-loop
-sub-class c = omega (arith, zeros-top (c .args .count) (omega arith) (omega arith))
+add-least : tie.Need-add-least
+add-least c = search needs
 
-mul-class : tie.Need-mul-class Inv-loop μ-loop
-mul-class c = search needs
+add-reached : tie.Need-add-reached
+add-reached c = search needs
 
-add-class : tie.Need-add-class Inv-loop μ-loop
-add-class c = search needs
+reached-requires : tie.Need-reached-requires
+reached-requires c κs = search needs
 
-loop-holds : tie.Need-loop-holds Inv-loop μ-loop
-loop-holds c = guess (c .args .count) _ (omega arith) (omega arith) (omega arith)
+add-result : tie.Need-add-result
+add-result c = omega (arith, c .reached .ensures .1)
 
-add-class-start : tie.Need-add-class-start Inv-loop μ-loop
-add-class-start c = search needs
+add-reached-2 : tie.Need-add-reached-2
+add-reached-2 c = search needs
 
-class-start-requires : tie.Need-class-start-requires Inv-loop μ-loop
-class-start-requires c κs = search needs
+reached-requires-2 : tie.Need-reached-requires-2
+reached-requires-2 c κs = search needs
 
-add-class-2 : tie.Need-add-class-2 Inv-loop μ-loop
-add-class-2 c = search needs
+add-result-2 : tie.Need-add-result-2
+add-result-2 c = omega (arith, c .before .reached .ensures .1, c .reached2 .ensures .1)
 
-loop-less : tie.Need-loop-less Inv-loop μ-loop
-loop-less c = search needs
+add-reached-3 : tie.Need-add-reached-3
+add-reached-3 c = search needs
 
-loop-again : tie.Need-loop-again Inv-loop μ-loop
-loop-again c =
-    let l = c .before .before .loop in
-    let v = c .before .before .before .args .count in
-    let n = next-reached v (l .class) (omega arith) (omega arith) (omega arith) (omega (arith, c .before .class-start .ensures)) in
-    (omega arith, n .0, n .1)
+reached-requires-3 : tie.Need-reached-requires-3
+reached-requires-3 c κs = search needs
 
-returns : tie.Need-returns Inv-loop μ-loop
+add-result-3 : tie.Need-add-result-3
+add-result-3 c = omega (arith, c .before .before .reached .ensures .1, c .before .reached2 .ensures .1, c .reached3 .ensures .1)
+
+returns : tie.Need-returns
 returns c =
-    let l = c .before .before .loop in
     let v = c .before .before .before .args .count in
-    last-reached v (l .class) (omega arith) (omega arith) (l .inv .2) (omega (arith, c .before .class-start .ensures))
+    counted-class v (2 * (31 - leadingZeros 32 v) + 1) _ _ _ (omega arith) (omega arith) refl (c .before .before .reached .ensures .0) (c .before .reached2 .ensures .0) (c .reached3 .ensures .0)
 
 pub class-search-spec : {M : Type 1} → statement M
 class-search-spec =
     tie.close
     (tie.spec
-    Inv-loop
-    μ-loop
-    sub-class
-    mul-class
-    add-class
-    loop-holds
-    add-class-start
-    class-start-requires
-    add-class-2
-    loop-less
-    loop-again
+    sub-least
+    mul-least
+    add-least
+    add-reached
+    reached-requires
+    add-result
+    add-reached-2
+    reached-requires-2
+    add-result-2
+    add-reached-3
+    reached-requires-3
+    add-result-3
     returns)

@@ -1,8 +1,11 @@
 -- `counts::is_valid` meets its contract. Each answer is true exactly of the fields of a valid code.
 -- Assumes nothing.
+use mathlib.Core.Logic.{⊎-elim}
+use native.Mathlib.Nat.{eq-zero-or-pos}
 use native.Mathlib.Omega.{arith}
+use borrow.Author.Needs.{needs}
 use borrow.Author.Tests.{leb-true, le-leb}
-use Rattle.counts.proofs.CountLaws.{valid-by, never-valid}
+use Rattle.counts.proofs.CountLaws.{least-is, valid-by, never-valid}
 use Rattle.counts.proofs.is_valid.Statement.{statement}
 use Rattle.counts.proofs.is_valid.Tie as tie
 
@@ -12,17 +15,17 @@ returns c = never-valid _ _ (λ v. omega (arith, v .bits-top))
 returns-2 : tie.Need-returns-2
 returns-2 c = never-valid _ _ (λ v. omega (arith, v .shift-top))
 
+least-bits-requires : tie.Need-least-bits-requires
+least-bits-requires c κs = search needs
+
 returns-3 : tie.Need-returns-3
 returns-3 c =
+    let a = c .before .before .before .args in
+    let l = least-is (a .shift) (c .least-bits .result) (c .least-bits .ensures) in
     valid-by _ _ _
-    (λ t. record { some = omega (arith, leb-true); bits-top = omega arith; shift-top = omega arith; bits-low = λ h. omega arith })
-    (λ v. omega (arith, le-leb, v .some))
-
-returns-4 : tie.Need-returns-4
-returns-4 c =
-    valid-by _ _ _
-    (λ t. record { some = omega (arith, leb-true); bits-top = omega arith; shift-top = omega arith; bits-low = λ h. omega (arith, leb-true) })
-    (λ v. omega (arith, le-leb, v .bits-low (omega arith)))
+    (λ t. let h = leb-true (c .least-bits .result) (a .bits) t in
+    record { some = omega (arith, h, l .0); bits-top = omega arith; shift-top = omega arith; bits-low = λ s. omega (arith, h, l .2 s) })
+    (λ v. le-leb (c .least-bits .result) (a .bits) (⊎-elim (λ z. omega (arith, l .3 z, v .some)) (λ s. omega (arith, l .1, v .bits-low s)) (eq-zero-or-pos (a .shift))))
 
 pub is-valid-spec : {M : Type 1} → statement M
-is-valid-spec = tie.close (tie.spec returns returns-2 returns-3 returns-4)
+is-valid-spec = tie.close (tie.spec returns returns-2 least-bits-requires returns-3)

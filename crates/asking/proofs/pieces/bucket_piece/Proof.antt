@@ -1,17 +1,13 @@
 -- `asking::pieces::bucket_piece` meets its contract: the loop's invariant is that the first k bucketlets are summed, and its measure what is
 -- left of the eight.
 -- Assumes nothing.
-use mathlib.Core.Path.{_≡_, sym, ap, _∙_}
+use mathlib.Core.Path.{_≡_, refl, sym, _∙_}
 use Prim.Native.Nat.{_-_}
 use native.Mathlib.Numerals.{add-one}
-use lib.ListN.{getD}
-use Rattle.coding.specs.Base.{base}
-use Rattle.coding.specs.Class.{classNumber}
-use Rattle.estimate.specs.Fraction.{plus}
 use native.Mathlib.Omega.{arith}
 use borrow.Author.Needs.{needs}
 use Rattle.layout.specs.Words.{start, end}
-use Rattle.estimate.specs.Exact.{inside, piece}
+use Rattle.estimate.specs.Exact.{inside}
 use Rattle.asking.proofs.WalkLaws.{Walked, walk-start, walk-step, starts, class-in, class-limit, total-valid, walk-within, walk-small, walk-end, total-end, bucket-none}
 use Rattle.asking.proofs.pieces.bucket_piece.Statement.{statement}
 use Rattle.asking.proofs.pieces.bucket_piece.Tie as tie
@@ -74,42 +70,28 @@ mul-w c = search needs
 element-copy-out-w : tie.Need-element-copy-out-w Inv-loop μ-loop
 element-copy-out-w c = search needs
 
-mul-class-number : tie.Need-mul-class-number Inv-loop μ-loop
-mul-class-number c = search needs
+mul-with-piece : tie.Need-mul-with-piece Inv-loop μ-loop
+mul-with-piece c = search needs
 
-element-copy-out-class-number : tie.Need-element-copy-out-class-number Inv-loop μ-loop
-element-copy-out-class-number c = search needs
+element-copy-out-with-piece : tie.Need-element-copy-out-with-piece Inv-loop μ-loop
+element-copy-out-with-piece c = search needs
 
-class-number-requires : tie.Need-class-number-requires Inv-loop μ-loop
-class-number-requires c κs =
+with-piece-requires : tie.Need-with-piece-requires Inv-loop μ-loop
+with-piece-requires c κs =
     let s = c .before .before .before .before .before .before .before .before .before .before .before .before in
-    class-in (s .args .words .now) (s .pre .0) (s .args .x) (s .args .y) (s .args .b) (s .pre .1) _ (c .before .before .before .before .before .before .bucket-at .ensures) (c .before .before .before .loop .k) (omega arith)
-
-piece-of-requires : tie.Need-piece-of-requires Inv-loop μ-loop
-piece-of-requires c κs =
-    let s = c .before .before .before .before .before .before .before .before .before .before .before .before .before in
-    let l = c .before .before .before .before .loop in
-    (omega (arith, walk-within (s .args .words .now) (s .pre .0) (s .args .x) (s .args .y) (s .args .b) (s .pre .1) _ (c .before .before .before .before .before .before .before .bucket-at .ensures) (l .sum) (l .a) (l .k) (l .inv) (omega arith)), omega (arith, c .class-number .ensures, class-limit (s .args .words .now) (s .pre .0) (s .args .x) (s .args .y) (s .args .b) (s .pre .1) _ (c .before .before .before .before .before .before .before .bucket-at .ensures) (l .k) (omega arith)))
-
--- what the bucketlet in hand gives
-gives : (c : tie.After-piece-of Inv-loop μ-loop) → let a = c .before .before .before .before .before .before .before .before .before .before .before .before .before .before .args in let l = c .before .before .before .before .before .loop in let r = c .before .before .before .before .before .before .before .before .bucket-at .result in
-    c .piece-of .result ≡ piece (a .x) (a .y) (l .a) (getD (r .widths) (l .k) 0) (classNumber base (getD (r .classes) (l .k) 0))
-gives c =
-    let a = c .before .before .before .before .before .before .before .before .before .before .before .before .before .before .args in
-    let l = c .before .before .before .before .before .loop in
-    c .piece-of .ensures ∙ ap (piece (a .x) (a .y) (l .a) (getD (c .before .before .before .before .before .before .before .before .bucket-at .result .widths) (l .k) 0)) (c .before .class-number .ensures)
-
-plus-requires : tie.Need-plus-requires Inv-loop μ-loop
-plus-requires c κs =
-    let s = c .before .before .before .before .before .before .before .before .before .before .before .before .before .before in
-    let l = c .before .before .before .before .before .loop in
-    walk-small (s .args .words .now) (s .pre .0) (s .args .x) (s .args .y) (s .args .b) (s .pre .1) _ (c .before .before .before .before .before .before .before .before .bucket-at .ensures) (l .sum) (l .a) (l .k) (l .inv) (omega arith) _ (gives c)
+    let l = c .before .before .before .loop in
+    record {
+      class-in = class-in (s .args .words .now) (s .pre .0) (s .args .x) (s .args .y) (s .args .b) (s .pre .1) _ (c .before .before .before .before .before .before .bucket-at .ensures) (l .k) (omega arith);
+      within = walk-within (s .args .words .now) (s .pre .0) (s .args .x) (s .args .y) (s .args .b) (s .pre .1) _ (c .before .before .before .before .before .before .bucket-at .ensures) (l .sum) (l .a) (l .k) (l .inv) (omega arith);
+      number-small = class-limit (s .args .words .now) (s .pre .0) (s .args .x) (s .args .y) (s .args .b) (s .pre .1) _ (c .before .before .before .before .before .before .bucket-at .ensures) (l .k) (omega arith);
+      small = walk-small (s .args .words .now) (s .pre .0) (s .args .x) (s .args .y) (s .args .b) (s .pre .1) _ (c .before .before .before .before .before .before .bucket-at .ensures) (l .sum) (l .a) (l .k) (l .inv) (omega arith) _ refl;
+    }
 
 add-a : tie.Need-add-a Inv-loop μ-loop
 add-a c =
-    let s = c .before .before .before .before .before .before .before .before .before .before .before .before .before .before .before in
-    let l = c .before .before .before .before .before .before .loop in
-    omega (arith, walk-within (s .args .words .now) (s .pre .0) (s .args .x) (s .args .y) (s .args .b) (s .pre .1) _ (c .before .before .before .before .before .before .before .before .before .bucket-at .ensures) (l .sum) (l .a) (l .k) (l .inv) (omega arith))
+    let s = c .before .before .before .before .before .before .before .before .before .before .before .before .before in
+    let l = c .before .before .before .before .loop in
+    omega (arith, walk-within (s .args .words .now) (s .pre .0) (s .args .x) (s .args .y) (s .args .b) (s .pre .1) _ (c .before .before .before .before .before .before .before .bucket-at .ensures) (l .sum) (l .a) (l .k) (l .inv) (omega arith))
 
 add-k : tie.Need-add-k Inv-loop μ-loop
 add-k c = search needs
@@ -119,10 +101,9 @@ loop-less c = search needs
 
 loop-again : tie.Need-loop-again Inv-loop μ-loop
 loop-again c =
-    let a = c .before .before .before .before .before .before .before .before .before .before .before .before .before .before .before .args in
-    let l = c .before .before .before .before .before .before .loop in
-    rw (add-one (l .k))
-    (walk-step _ (a .x) (a .y) (l .sum) (l .a) (l .k) (l .inv) (omega arith) _ (c .plus .ensures ∙ ap (plus (l .sum)) (gives (c .before))))
+    let a = c .before .before .before .before .before .before .before .before .before .before .before .before .before .args in
+    let l = c .before .before .before .before .loop in
+    rw (add-one (l .k)) (walk-step _ (a .x) (a .y) (l .sum) (l .a) (l .k) (l .inv) (omega arith) _ (c .with-piece .ensures))
 
 returns-3 : tie.Need-returns-3 Inv-loop μ-loop
 returns-3 c =
@@ -147,11 +128,9 @@ bucket-piece-spec =
     loop-holds
     mul-w
     element-copy-out-w
-    mul-class-number
-    element-copy-out-class-number
-    class-number-requires
-    piece-of-requires
-    plus-requires
+    mul-with-piece
+    element-copy-out-with-piece
+    with-piece-requires
     add-a
     add-k
     loop-less
