@@ -79,7 +79,10 @@ fn code_fault(words: &[u32]) -> bool
 {
     let buckets = words::bucket_count(words) as usize;
     for b in 0..buckets {
-        if faults::codes_broken(words::bucket_at(words, b)) {
+        if faults::codes_broken(unpacking::decode(
+            words::five_at(words, b),
+            words::end_at(words, b),
+        )) {
             return true;
         }
     }

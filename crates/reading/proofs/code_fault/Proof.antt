@@ -9,7 +9,7 @@ use Prim.Native.Nat.{ℕ, _-_, _≤_, _<_}
 use native.Mathlib.Omega.{arith}
 use borrow.Author.Count.{below-more}
 use Rattle.laws.proofs.EachLaws.{some-at, some-none}
-use Rattle.layout.specs.Decoded.{bucketAt}
+use Rattle.layout.specs.Decoded.{decode, bucketAt}
 use Rattle.layout.specs.Reading.{codesBroken, codeFault}
 use Rattle.reading.proofs.code_fault.Statement.{statement}
 use Rattle.reading.proofs.code_fault.Tie as tie
@@ -32,22 +32,32 @@ cast-buckets c = search needs
 loop-holds : tie.Need-loop-holds Inv-loop μ-loop
 loop-holds c = (search needs, λ i h. absurd (omega arith))
 
-bucket-at-requires : tie.Need-bucket-at-requires Inv-loop μ-loop
-bucket-at-requires c κs = search needs
+five-at-requires : tie.Need-five-at-requires Inv-loop μ-loop
+five-at-requires c κs = search needs
+
+end-at-requires : tie.Need-end-at-requires Inv-loop μ-loop
+end-at-requires c κs = search needs
+
+decode-requires : tie.Need-decode-requires Inv-loop μ-loop
+decode-requires c κs = search needs
 
 codes-broken-requires : tie.Need-codes-broken-requires Inv-loop μ-loop
 codes-broken-requires c κs = search needs
 
 -- what was tested is bucket b
-tested : (c : tie.After-codes-broken Inv-loop μ-loop) → c .codes-broken .result ≡ brokenAt (c .before .before .before .before .before .before .args .words .now) (c .before .before .before .loop .b)
-tested c = c .codes-broken .ensures ∙ ap codesBroken (c .before .bucket-at .ensures)
+tested : (c : tie.After-codes-broken Inv-loop μ-loop)
+    → c .codes-broken .result ≡ brokenAt (c .before .before .before .before .before .before .before .before .args .words .now) (c .before .before .before .before .before .loop .b)
+tested c =
+    let five = c .before .before .before .five-at .ensures in
+    let to = c .before .before .end-at .ensures in
+    c .codes-broken .ensures ∙ ap codesBroken (c .before .decode .ensures ∙ (λ i. decode (five i) (to i)))
 
 returns : tie.Need-returns Inv-loop μ-loop
 unfolding codeFault
 returns c =
-    let ws = c .before .before .before .before .before .before .before .args .words .now in
-    let n = c .before .before .before .before .before .bucket-count .ensures in
-    sym (some-at _ (brokenAt ws) (c .before .before .before .before .loop .b) (omega arith) (sym (tested (c .before)) ∙ c .if1 .taken))
+    let ws = c .before .before .before .before .before .before .before .before .before .args .words .now in
+    let n = c .before .before .before .before .before .before .before .bucket-count .ensures in
+    sym (some-at _ (brokenAt ws) (c .before .before .before .before .before .before .loop .b) (omega arith) (sym (tested (c .before)) ∙ c .if1 .taken))
 
 add-b : tie.Need-add-b Inv-loop μ-loop
 add-b c = search needs
@@ -56,7 +66,7 @@ loop-less : tie.Need-loop-less Inv-loop μ-loop
 loop-less c = search needs
 
 loop-again : tie.Need-loop-again Inv-loop μ-loop
-loop-again c = (search needs, below-more _ _ (c .before .before .before .before .loop .inv .1) (sym (tested (c .before)) ∙ c .if1 .left))
+loop-again c = (search needs, below-more _ _ (c .before .before .before .before .before .before .loop .inv .1) (sym (tested (c .before)) ∙ c .if1 .left))
 
 returns-2 : tie.Need-returns-2 Inv-loop μ-loop
 unfolding codeFault
@@ -74,7 +84,9 @@ code-fault-spec =
     bucket-count-requires
     cast-buckets
     loop-holds
-    bucket-at-requires
+    five-at-requires
+    end-at-requires
+    decode-requires
     codes-broken-requires
     returns
     add-b
