@@ -1,7 +1,7 @@
 //! "Asking", the estimator: one exact sum, rounded up once.
 
 use crate::coding::{class_number, code_number};
-use crate::words::{read, Histogram};
+use crate::words::{read, Bucket, Histogram};
 
 /// A fraction of whole numbers. A range cuts at most two bucketlets, so the denominator stays
 /// below 4,096 squared.
@@ -29,9 +29,14 @@ impl Fraction {
 
 /// The sum for a range that lies within the list, not yet rounded.
 pub fn exact(histogram: &Histogram, x: u32, y: u32) -> Fraction {
+    exact_of(&histogram.buckets, x, y)
+}
+
+/// What some buckets give to it.
+pub fn exact_of(buckets: &[Bucket], x: u32, y: u32) -> Fraction {
     let mut sum = Fraction { numerator: 0, denominator: 1 };
     let wholly_inside = |start: u32, end: u32| x <= start && end <= y;
-    for bucket in &histogram.buckets {
+    for bucket in buckets {
         let (start, end) = (bucket.start, bucket.end());
         if y <= start || end <= x {
             continue;

@@ -24,3 +24,6 @@ pub mod program;
 // The comparison.
 pub mod compare;
 pub mod generate;
+
+// The benchmark.
+pub mod bench;
