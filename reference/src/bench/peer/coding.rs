@@ -28,11 +28,9 @@ static MIDDLE: [u32; 32] = [
 /// The class of a count from 1 to the limit: at most three above where its highest bit points.
 #[inline]
 pub fn class_for(count: u32) -> u32 {
-    let mut class = 2 * (31 - count.leading_zeros()) + 1;
-    while FIRST[(class as usize + 1) & 63] <= count {
-        class += 1;
-    }
-    class
+    let least = 2 * (31 - count.leading_zeros()) + 1;
+    let reached = |class: u32| (FIRST[(class & 63) as usize] <= count) as u32;
+    least + reached(least + 1) + reached(least + 2) + reached(least + 3)
 }
 
 #[inline]
