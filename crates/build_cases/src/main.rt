@@ -136,6 +136,9 @@ fn examples() {
             0xC0000000,
         ],
     );
+}
+
+fn stored_q() {
     list(
         b"q 6/4 is stored as given",
         &[10],
@@ -156,7 +159,7 @@ fn examples() {
     );
 }
 
-fn limits() {
+fn limits_of_theta_and_q() {
     let tens = [10u32, 10, 10, 10];
     case(b"q 5/4", &tens, 1, 5, 4, 0, 9);
     case(b"q 124/100", &tens, 1, 124, 100, 5, 0);
@@ -176,6 +179,9 @@ fn limits() {
     case(b"theta 0 and q 124/100", &tens, 0, 124, 100, 4, 0);
     case(b"theta 1,048,575", &tens, 1048575, 3, 2, 0, 9);
     case(b"theta 1,048,576", &tens, 1048576, 3, 2, 4, 0);
+}
+
+fn limits_of_the_list() {
     case(b"an empty list and theta 0", &[], 0, 3, 2, 1, 0);
     case(b"a frequency of 0 and theta 0", &[5, 0], 0, 3, 2, 2, 0);
     case(
@@ -226,7 +232,7 @@ fn lengths() {
     report(b"  word 11", OLD, twelve[11]);
 }
 
-fn widest() {
+fn early_failures() {
     widths(
         b"4, 12, 6: width 3 fits again",
         &[4, 12, 6],
@@ -245,6 +251,9 @@ fn widest() {
         0,
         [2, 2, 0, 0, 0, 0, 0, 0],
     );
+}
+
+fn equal_entries() {
     let tens = [10u32; 7673];
     widths(
         b"511 equal entries",
@@ -282,6 +291,9 @@ fn widest() {
         1,
         [1, 0, 0, 0, 0, 0, 0, 0],
     );
+}
+
+fn narrow_then_wide() {
     let mut narrow = [5000u32; 4103];
     narrow[0] = 1;
     narrow[1] = 100;
@@ -330,8 +342,12 @@ fn flags() {
 
 fn main() {
     examples();
-    limits();
+    stored_q();
+    limits_of_theta_and_q();
+    limits_of_the_list();
     lengths();
-    widest();
+    early_failures();
+    equal_entries();
+    narrow_then_wide();
     flags();
 }

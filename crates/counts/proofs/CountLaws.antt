@@ -117,9 +117,9 @@ fourth-not v k c h l e =
     omega (arith, reach)
 
 -- the class is the first guess and one more for each of the next three that v reaches
-pub counted-class : (v c a b d : ℕ) → 1 ≤ v → v ≤ limit → c ≡ 2 * (31 - leadingZeros 32 v) + 1 → a ≡ cond (leb (startOf (c + 1)) v) 1 0
-    → b ≡ cond (leb (startOf (c + 2)) v) 1 0 → d ≡ cond (leb (startOf (c + 3)) v) 1 0 → c + a + b + d ≡ classOf base v
-counted-class v c a b d h l e ea eb ed = go _ _ _ refl refl refl ea eb ed
+pub counted-class : (v c a b d : ℕ) → 1 ≤ v → v ≤ limit → a ≡ cond (leb (startOf (c + 1)) v) 1 0 → b ≡ cond (leb (startOf (c + 2)) v) 1 0
+    → d ≡ cond (leb (startOf (c + 3)) v) 1 0 → c ≡ 2 * (31 - leadingZeros 32 v) + 1 → c + a + b + d ≡ classOf base v
+counted-class v c a b d h l ea eb ed e = go _ _ _ refl refl refl ea eb ed
   where
     top : Top v (31 - leadingZeros 32 v)
     top = zeros-top v h (omega arith) .1
