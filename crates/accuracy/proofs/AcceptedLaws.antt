@@ -9,10 +9,9 @@ use borrow.Author.Tests.{eqb-true, ne-eqb}
 use lib.Dec.{eqb}
 use lib.ListN.{getD}
 use Rattle.laws.specs.Each.{each}
-use Rattle.laws.specs.Refusal.{numbered}
 use Rattle.laws.specs.Sums.{partSum}
 use Rattle.laws.proofs.EachLaws.{each-at}
-use Rattle.laws.proofs.RefusalLaws.{append-first, append-passed}
+use Rattle.laws.proofs.RefusalLaws.{numbered, append-first, append-passed}
 use Rattle.laws.proofs.Tests.{both-left, both-right, holds-other}
 use Rattle.coding.specs.Base.{base}
 use Rattle.coding.specs.Class.{classNumber}

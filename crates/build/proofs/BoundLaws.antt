@@ -9,7 +9,7 @@ use native.Mathlib.Nat.{le-trans, mul-le-mul, eq-or-lt-of-le}
 use native.Mathlib.Omega.{arith}
 use borrow.Author.Tests.{ltb-true, ltb-false}
 use lib.Dec.{ltb}
-use Rattle.laws.specs.Greatest.{Greatest}
+use Rattle.laws.specs.Private.Greatest.{Greatest}
 use Rattle.laws.specs.Sums.{partSum}
 use Rattle.laws.proofs.SumsLaws.{part-le, part-add}
 use Rattle.coding.specs.Base.{limit}
@@ -17,8 +17,8 @@ use Rattle.layout.specs.Limits.{maxQ, maxWidth}
 use Rattle.fit.specs.declared.Quality.{Quality}
 use Rattle.build.specs.declared.growth.Fraction.{Fraction}
 use Rattle.build.specs.declared.growth.Bounds.{Bounds}
-use Rattle.build.specs.Growing.{fraction, greater, counted, Seen, rangeCount, rangeLength, rangeCap, HeavySeen, Bounding}
-use Rattle.histogram.specs.Sound.{Sound}
+use Rattle.build.specs.Private.Growing.{fraction, greater, counted, Seen, rangeCount, rangeLength, rangeCap, HeavySeen, Bounding}
+use Rattle.histogram.specs.Private.Sound.{Sound}
 use Rattle.build.proofs.GrowthLaws.{kept-none, kept-row, kept-split, lower-light, lower-greater, lower-smaller, upper-greater, upper-smaller}
 
 abbrev pub bounds : Fraction → Fraction → Bounds

@@ -15,12 +15,12 @@ use Rattle.layout.specs.Limits.{maxQ}
 use Rattle.layout.specs.declared.Bucket.{Bucket}
 use Rattle.layout.specs.Decoded.{encode}
 use Rattle.fit.specs.declared.Quality.{Quality}
-use Rattle.histogram.specs.Sound.{Sound}
+use Rattle.histogram.specs.Private.Sound.{Sound}
 use Rattle.histogram.specs.Bucket.{bucketWidths, bucketFrom}
 use Rattle.histogram.specs.Words.{bucketsFrom, stretch, bucketWordsOf, words}
 use Rattle.histogram.proofs.BucketLaws.{sum-within, sum-eight}
 use Rattle.histogram.proofs.WordsLaws.{encode-length, words-length, buckets-more, buckets-done}
-use Rattle.build.specs.Filling.{maxBuckets, maxWords, Bodied, Whole}
+use Rattle.build.specs.Private.Filling.{maxBuckets, maxWords, Bodied, Whole}
 
 -- ---- five stores in a row
 

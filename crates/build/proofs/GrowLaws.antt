@@ -13,11 +13,11 @@ use Rattle.laws.proofs.Tests.{both, both-left, both-right, same-test}
 use Rattle.laws.proofs.SearchLaws.{largest-unique}
 use Rattle.fit.specs.declared.Quality.{Quality}
 use Rattle.fit.proofs.FitLaws.{says-near}
-use Rattle.histogram.specs.Sound.{Sound}
+use Rattle.histogram.specs.Private.Sound.{Sound}
 use Rattle.histogram.specs.Width.{valueOf, fitsAt, width}
 use Rattle.histogram.proofs.WidthLaws.{count-some, count-small, value-near}
 use Rattle.build.specs.declared.growth.Bounds.{Bounds}
-use Rattle.build.specs.Growing.{Bounding, passes}
+use Rattle.build.specs.Private.Growing.{Bounding, passes}
 use Rattle.build.proofs.GrowthLaws.{fits-tests, tests-fit}
 
 module _ (q : Quality) (fs : List ℕ) (a : ℕ) (sound : Sound fs q) where

@@ -15,10 +15,10 @@ use Rattle.laws.specs.Sums.{partSum}
 use Rattle.laws.proofs.Tests.{both, both-right}
 use Rattle.laws.proofs.EachLaws.{each-at, each-all}
 use Rattle.laws.proofs.SumsLaws.{part-add, part-within}
-use Rattle.laws.specs.Greatest.{Greatest}
+use Rattle.laws.specs.Private.Greatest.{Greatest}
 use Rattle.laws.proofs.GreatestLaws.{Plus, of-none, of-greater, of-smaller, of-spread}
 use Rattle.fit.specs.declared.Quality.{Quality}
-use Rattle.build.specs.Growing.{Seen, rangeCount, rangeLength, rangeCap, HeavySeen, KeptBy}
+use Rattle.build.specs.Private.Growing.{Seen, rangeCount, rangeLength, rangeCap, HeavySeen, KeptBy}
 use Rattle.fit.specs.Fit.{near, fits, rangesFit, bucketletFits}
 use Rattle.fit.proofs.FitLaws.{Bounded, small-fits, fits-bounded, bounded-fits, heavy-cap}
 

@@ -16,7 +16,7 @@ use Rattle.coding.specs.Total.{totalCode}
 use Rattle.fit.specs.declared.Quality.{Quality}
 use Rattle.histogram.specs.Bucket.{widthWithin, firstFree, limitsOf, bucketWidths, bucketletClass, classesFrom, bucketFrom}
 use Rattle.histogram.proofs.BucketLaws.{placeOf, widths-length, first-is, width-at, place-next, next-is, classes-length, class-at}
-use Rattle.build.specs.Laying.{placed}
+use Rattle.build.specs.Private.Laying.{placed}
 
 -- the first limit does not depend on the first width
 limit-same : (k x y : ℕ) → (0 < k → x ≡ y) → getD (limitsOf x) k 0 ≡ getD (limitsOf y) k 0

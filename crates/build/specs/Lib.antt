@@ -1,4 +1,2 @@
 pub mod Built
-pub mod Growing
-pub mod Laying
-pub mod Filling
+pub mod Private

@@ -15,7 +15,7 @@ ghost use Rattle.coding.specs.Class.{classOf};
 ghost use Rattle.coding.specs.Total.{totalCode};
 ghost use Rattle.layout.specs.Limits.{maxWidth};
 ghost use Rattle.histogram.specs.Bucket.{widthWithin};
-ghost use Rattle.build.specs.Laying.{Layable, placed};
+ghost use Rattle.build.specs.Private.Laying.{Layable, placed};
 
 // A bucket, and the entry where the next one starts.
 pub(crate) struct Placed {

@@ -6,8 +6,8 @@ ghost use mathlib.Core.List.{_++_};
 ghost use mathlib.Core.Path.{_≡_};
 ghost use Prim.Native.Nat.{_+_, _≤_};
 ghost use lib.ListN.{length, take, drop};
-ghost use Rattle.histogram.specs.Sound.{Sound};
-ghost use Rattle.build.specs.Filling.{maxWords, Bodied, Whole};
+ghost use Rattle.histogram.specs.Private.Sound.{Sound};
+ghost use Rattle.build.specs.Private.Filling.{maxWords, Bodied, Whole};
 
 fn put_five(words: &mut [u32], at: usize, five: [u32; 5])
     requires { ⌜ at + 5 ≤ length (now words) ⌝ }

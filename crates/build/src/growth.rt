@@ -9,7 +9,7 @@ ghost use Prim.Native.Nat.{suc, _-_, _*_, _^_, _≤_, _<_, max};
 ghost use lib.Dec.{ltb};
 ghost use Rattle.coding.specs.Base.{limit};
 ghost use Rattle.histogram.specs.Width.{valueOf, width};
-ghost use Rattle.build.specs.Growing.{Growable, Widenable, Bounding, Testable, greater, counted, passes};
+ghost use Rattle.build.specs.Private.Growing.{Growable, Widenable, Bounding, Testable, greater, counted, passes};
 
 pub(crate) struct Fraction {
     pub top: u64,

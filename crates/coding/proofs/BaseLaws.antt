@@ -15,7 +15,7 @@ use Rattle.laws.proofs.Table.{at}
 use Rattle.coding.specs.Base.{base, limit, usedClass}
 use Rattle.coding.specs.Class.{Class, reaches, inClass, classOf, classStart, classNumber}
 use Rattle.coding.specs.Total.{middle}
-use Rattle.coding.specs.Tables.{starts, numbers, middles}
+use Rattle.coding.specs.Private.Tables.{starts, numbers, middles}
 use Rattle.coding.proofs.ClassLaws.{Reached, class-is, reached-down, start-eq, start-le, below-next, number-is}
 use Rattle.coding.proofs.TotalLaws.{middle-eq}
 

@@ -3,4 +3,4 @@ pub mod Class
 pub mod Total
 pub mod Worked
 pub mod Claims
-pub mod Tables
+pub mod Private

@@ -7,10 +7,9 @@ use mathlib.Core.Logic.{_⊎_, ⊎-elim}
 use Prim.Native.Nat.{ℕ, _≤_, _<_}
 use borrow.Author.Tests.{le-ltb, lt-ltb, eq-eqb, ne-eqb}
 use lib.Dec.{ltb}
-use Rattle.laws.specs.Refusal.{numbered}
 use Rattle.laws.specs.Reply.{answered, refused}
 use Rattle.laws.proofs.Tests.{neither, holds-left, holds-right}
-use Rattle.laws.proofs.RefusalLaws.{none-left, passed, append-passed, append-refused, append-first, refused as refused-at}
+use Rattle.laws.proofs.RefusalLaws.{numbered, none-left, passed, append-passed, append-refused, append-first, refused as refused-at}
 use Rattle.layout.specs.Words.{entries}
 use Rattle.layout.specs.Reading.{reading, readFault, Readable}
 use Rattle.estimate.specs.Asking.{rangeFault, askFault, estimate, estimateReply}

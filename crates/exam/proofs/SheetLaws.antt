@@ -30,7 +30,7 @@ use Rattle.histogram.proofs.Proved.{building}
 use Rattle.exam.specs.Text.{ascii}
 use Rattle.exam.specs.Lines.{labelled, headLine, bucketLine, bucketletLine, refusedLine}
 use Rattle.exam.specs.Sheet.{joined, bucketletPart, bucketPart, histogramSheet, listSheet, filled}
-use Rattle.exam.specs.Room.{Roomy, Printable}
+use Rattle.exam.specs.Private.Room.{Roomy, Printable}
 use Rattle.exam.proofs.TextLaws.{decimal-length, places-few}
 
 -- ---- lines

@@ -6,9 +6,9 @@ use mathlib.Core.List.{List, [], _∷_, _++_}
 use Prim.Native.Nat.{ℕ}
 use borrow.Author.Tests.{eq-eqb, ne-eqb, eqb-true, not-false}
 use lib.ListN.{length}
-use Rattle.laws.specs.Refusal.{Sentence, refusal, numbered}
+use Rattle.laws.specs.Refusal.{Sentence, refusal}
 use Rattle.laws.proofs.Tests.{not-holds}
-use Rattle.laws.proofs.RefusalLaws.{refused, passed, none-left, none-true, append-refused, append-passed, append-first}
+use Rattle.laws.proofs.RefusalLaws.{numbered, refused, passed, none-left, none-true, append-refused, append-passed, append-first}
 use Rattle.layout.specs.Words.{entries}
 use Rattle.layout.specs.Reading.{reading, readFault, Readable}
 use Rattle.fit.specs.Frequencies.{listing, listFault}

@@ -11,11 +11,10 @@ use borrow.Author.Tests.{eq-eqb, ne-eqb}
 use lib.Dec.{eqb}
 use lib.ListN.{length, getD}
 use Rattle.laws.specs.Each.{each}
-use Rattle.laws.specs.Refusal.{numbered}
 use Rattle.laws.specs.Sums.{sum, partSum}
 use Rattle.laws.proofs.Tests.{both, holds-left, holds-right}
 use Rattle.laws.proofs.EachLaws.{each-all}
-use Rattle.laws.proofs.RefusalLaws.{append-passed, none-left}
+use Rattle.laws.proofs.RefusalLaws.{numbered, append-passed, none-left}
 use Rattle.laws.proofs.RefusalLaws as law
 use Rattle.coding.specs.Base.{base, limit}
 use Rattle.coding.specs.Class.{classOf, classNumber}
@@ -30,7 +29,7 @@ use Rattle.fit.specs.Fit.{bucketletFits}
 use Rattle.fit.specs.Frequencies.{listing, listFault}
 use Rattle.fit.specs.Accepted.{mismatch, checkFault, qualityOf, bucketletGood, totalGood, bucketGood, accepted}
 use Rattle.fit.proofs.FitLaws.{says-near}
-use Rattle.histogram.specs.Sound.{Sound}
+use Rattle.histogram.specs.Private.Sound.{Sound}
 use Rattle.histogram.specs.Width.{fitsAt}
 use Rattle.histogram.specs.Bucket.{limitsOf, bucketWidths, bucketFrom}
 use Rattle.histogram.specs.Words.{stretch, words}

@@ -15,7 +15,7 @@ use Rattle.laws.proofs.Table.{at}
 use Rattle.laws.proofs.SumsLaws.{getD-le-sum, prefix-suc, prefix-all}
 use Rattle.layout.specs.Limits.{maxListed, maxWidth}
 use Rattle.fit.specs.declared.Quality.{Quality}
-use Rattle.histogram.specs.Sound.{Sound}
+use Rattle.histogram.specs.Private.Sound.{Sound}
 use Rattle.histogram.specs.Bucket.{widthWithin, widthsFrom, firstFree, limitsOf, bucketWidths, bucketletClass, classesFrom}
 use Rattle.histogram.proofs.WidthLaws.{width-within, width-some}
 

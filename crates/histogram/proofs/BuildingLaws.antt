@@ -8,10 +8,10 @@ use native.Mathlib.Omega.{arith}
 use borrow.Author.Tests.{lt-ltb, le-ltb, eq-eqb, ne-eqb}
 use lib.Dec.{ltb, eqb}
 use lib.ListN.{length, take, drop}
-use Rattle.laws.specs.Refusal.{Sentence, refusal, numbered}
+use Rattle.laws.specs.Refusal.{Sentence, refusal}
 use Rattle.laws.specs.Reply.{answered, refused}
 use Rattle.laws.proofs.Tests.{chosen, not-chosen}
-use Rattle.laws.proofs.RefusalLaws.{append-refused, append-passed, none-left}
+use Rattle.laws.proofs.RefusalLaws.{numbered, append-refused, append-passed, none-left}
 use Rattle.laws.proofs.RefusalLaws as law
 use Rattle.histogram.specs.Words.{words}
 use Rattle.histogram.specs.Building.{quality, inputs, buildFault, buildReply, written}

@@ -3,8 +3,8 @@ use mathlib.Core.Path.{_≡_, refl}
 use mathlib.Core.List.{List}
 use Prim.Native.Nat.{ℕ}
 use native.Mathlib.Omega.{arith}
-use Rattle.laws.specs.Refusal.{refusal, numbered}
-use Rattle.laws.proofs.RefusalLaws.{append-first}
+use Rattle.laws.specs.Refusal.{refusal}
+use Rattle.laws.proofs.RefusalLaws.{numbered, append-first}
 use Rattle.fit.specs.Frequencies.{listing}
 use Rattle.histogram.specs.Building.{quality, parameters, inputs}
 use Rattle.histogram.specs.Claims.{Widths, Built, Building}

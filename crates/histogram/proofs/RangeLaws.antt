@@ -22,7 +22,7 @@ use Rattle.layout.specs.Limits.{maxListed, maxWidth}
 use Rattle.layout.specs.Claims.{InRange}
 use Rattle.layout.proofs.CodeLaws.{ClassGood}
 use Rattle.fit.specs.declared.Quality.{Quality}
-use Rattle.histogram.specs.Sound.{Sound}
+use Rattle.histogram.specs.Private.Sound.{Sound}
 use Rattle.histogram.specs.Bucket.{firstFree, limitsOf, bucketWidths, classesFrom, bucketFrom}
 use Rattle.histogram.proofs.WidthLaws.{width-within, count-some, count-small}
 use Rattle.histogram.proofs.BucketLaws.{placeOf, limit-bounds, widths-length, first-is, width-at, place-next, place-within, sum-within, sum-some, classes-length, class-at}

@@ -31,7 +31,7 @@ use Rattle.layout.proofs.CodeLaws.{Room, no-width-fault, no-class-fault}
 use Rattle.layout.proofs.EntryLaws.{part-five}
 use Rattle.layout.proofs.ReadingLaws.{readable}
 use Rattle.fit.specs.declared.Quality.{Quality}
-use Rattle.histogram.specs.Sound.{Sound}
+use Rattle.histogram.specs.Private.Sound.{Sound}
 use Rattle.histogram.specs.Bucket.{bucketWidths, classesFrom, bucketFrom}
 use Rattle.histogram.specs.Words.{startFrom, stretch, bucketWordsOf, words}
 use Rattle.histogram.proofs.BucketLaws.{sum-some}

@@ -9,15 +9,15 @@ use borrow.Author.Tests.{ltb-false, eqb-false, not-false}
 use lib.Dec.{eqb}
 use lib.ListN.{length, getD}
 use Rattle.laws.specs.Each.{some}
-use Rattle.laws.specs.Refusal.{refusal, numbered}
+use Rattle.laws.specs.Refusal.{refusal}
 use Rattle.laws.specs.Sums.{sum}
 use Rattle.laws.proofs.EachLaws.{none-at}
-use Rattle.laws.proofs.RefusalLaws.{none-true}
+use Rattle.laws.proofs.RefusalLaws.{numbered, none-true}
 use Rattle.coding.specs.Base.{limit}
 use Rattle.layout.proofs.HeadLaws.{within, good-q}
 use Rattle.layout.specs.Limits.{maxEntries, maxTheta}
 use Rattle.fit.specs.Frequencies.{lengthFault, zeroFault, sumFault}
-use Rattle.histogram.specs.Sound.{Sound}
+use Rattle.histogram.specs.Private.Sound.{Sound}
 use Rattle.histogram.specs.Building.{quality, inputs}
 
 pub sound-of : (fs : List ℕ) (theta qn qd : ℕ) → refusal (inputs fs theta qn qd) ≡ 0 → Sound fs (quality theta qn qd)

@@ -12,7 +12,7 @@ use Rattle.laws.specs.Sums.{sum}
 use Rattle.layout.specs.declared.Bucket.{Bucket}
 use Rattle.layout.specs.Decoded.{encode}
 use Rattle.fit.specs.declared.Quality.{Quality}
-use Rattle.histogram.specs.Sound.{Sound}
+use Rattle.histogram.specs.Private.Sound.{Sound}
 use Rattle.histogram.specs.Bucket.{bucketWidths, bucketFrom}
 use Rattle.histogram.specs.Words.{bucketsFrom, bucketWordsOf, startFrom}
 use Rattle.histogram.proofs.BucketLaws.{sum-within, sum-some, sum-eight}

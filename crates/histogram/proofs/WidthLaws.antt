@@ -22,7 +22,7 @@ use Rattle.coding.proofs.BaseLaws.{class-used, close, count-close}
 use Rattle.fit.specs.declared.Quality.{Quality}
 use Rattle.fit.specs.Fit.{near, fits, rangesFit, bucketletFits}
 use Rattle.fit.proofs.FitLaws.{Near, says-near, near-fits, small-fits}
-use Rattle.histogram.specs.Sound.{Sound}
+use Rattle.histogram.specs.Private.Sound.{Sound}
 use Rattle.histogram.specs.Width.{valueOf, fitsAt, width}
 use Rattle.histogram.specs.Claims.{Largest}
 

@@ -12,7 +12,7 @@ use Rattle.layout.specs.Limits.{between}
 use Rattle.layout.proofs.HeadLaws.{within, is-within}
 use Rattle.exam.specs.Input.{lines, every, allNumerals, numbers, leastNumbers, mostNumbers, asDescribed}
 use Rattle.input.specs.declared.Numbers.{Numbers}
-use Rattle.input.specs.Lines.{Stepped}
+use Rattle.input.specs.Private.Lines.{Stepped}
 use Rattle.input.specs.Reply.{NumbersReply, numbersReply, inputReply}
 
 -- n numbers are read, of the bytes before `start`

@@ -13,7 +13,7 @@ use Rattle.laws.proofs.Tests.{both, both-left, both-right, fails-left, fails-ri
 use Rattle.exam.specs.Input.{lineFeed, Lines, lines, every, digit, leadingZero, valueAfter, value, numeral, allNumerals, numbers}
 use Rattle.exam.proofs.InputLaws.{noFeed, every-back, every-both, every-one, value-snoc, Numeral, is-numeral, numeral-is, ended-line, open-line, broken}
 use Rattle.exam.proofs.LinesLaws.{digits-no-feed}
-use Rattle.input.specs.Lines.{Stepped}
+use Rattle.input.specs.Private.Lines.{Stepped}
 
 -- the bytes from `start` on, up to i
 abbrev pub piece : List ℕ → ℕ → ℕ → List ℕ

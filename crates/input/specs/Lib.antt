@@ -1,2 +1,2 @@
 pub mod Reply
-pub mod Lines
+pub mod Private

@@ -6,7 +6,7 @@ ghost use Prim.Native.Nat.{_+_, _-_, _*_, _^_, _≤_, _<_};
 ghost use lib.Dec.{ltb, eqb};
 ghost use lib.ListN.{length, getD};
 ghost use Rattle.exam.specs.Input.{digit};
-ghost use Rattle.input.specs.Lines.{LineAt};
+ghost use Rattle.input.specs.Private.Lines.{LineAt};
 
 // Its number and where the next line starts, or that it is no number or is not ended.
 pub enum Line {

@@ -5,7 +5,7 @@ use mathlib.Core.Logic.{_⊎_, ⊎-elim}
 use Prim.Native.Nat.{ℕ, _+_, _*_, _≤_, _<_}
 use native.Mathlib.Nat.{le-of-mul-le-mul-right, mul-le-mul-right}
 use native.Mathlib.Omega.{arith}
-use Rattle.laws.specs.Greatest.{Greatest}
+use Rattle.laws.specs.Private.Greatest.{Greatest}
 
 -- a/b ≤ c/d ≤ x/y
 through : (a b c d x y : ℕ) → 0 < d → a * d ≤ c * b → c * y ≤ x * d → a * y ≤ x * b

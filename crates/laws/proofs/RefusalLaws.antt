@@ -1,14 +1,19 @@
 -- Laws of `refusal` (specs/Refusal.antt): it is that of the first sentence where that is true, else that of the rest.
 -- Assumes nothing.
 use mathlib.Core.Path.{_≡_, refl, sym, ap, _∙_}
-use mathlib.Core.Bool.{Bool, true, false, cond}
+use mathlib.Core.Bool.{Bool, true, false, cond, _&&_}
 use mathlib.Core.List.{List, [], _∷_, _++_}
 use Prim.Native.Nat.{ℕ, zero, suc, _≤_}
 use native.Mathlib.Omega.{arith}
 use borrow.Author.Tests.{leb-true, eq-eqb, ne-eqb}
 use lib.Dec.{leb, eqb}
-use Rattle.laws.specs.Refusal.{Sentence, refusal, numbered}
+use Rattle.laws.specs.Refusal.{Sentence, refusal}
 use Rattle.laws.proofs.Tests.{both-left, both-right}
+
+-- no sentence has the number 0
+unfoldable pub numbered : List Sentence → Bool
+numbered [] = true
+numbered (s ∷ ss) = leb 1 (s .number) && numbered ss
 
 pub none-left : refusal [] ≡ 0
 unfolding refusal

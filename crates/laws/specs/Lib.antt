@@ -4,4 +4,4 @@ pub mod Refusal
 pub mod Reply
 pub mod Sums
 pub mod Field
-pub mod Greatest
+pub mod Private

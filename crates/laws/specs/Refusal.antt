@@ -1,10 +1,9 @@
 -- Numbered sentences, and the number that a call answers: that of the first sentence that is true (document 01, "When a call is turned
 -- away").
 -- Assumes nothing.
-use mathlib.Core.Bool.{Bool, true, cond, _&&_}
+use mathlib.Core.Bool.{Bool, cond}
 use mathlib.Core.List.{List, [], _∷_}
 use Prim.Native.Nat.{ℕ}
-use lib.Dec.{leb}
 
 pub record Sentence : Type 0 where
   pub number : ℕ
@@ -14,8 +13,3 @@ pub record Sentence : Type 0 where
 unfoldable pub refusal : List Sentence → ℕ
 refusal [] = 0
 refusal (s ∷ ss) = cond (s .holds) (s .number) (refusal ss)
-
--- no sentence has the number 0
-unfoldable pub numbered : List Sentence → Bool
-numbered [] = true
-numbered (s ∷ ss) = leb 1 (s .number) && numbered ss

@@ -11,10 +11,10 @@ use borrow.Author.Tests.{ltb-true, ltb-false, lt-ltb, le-ltb, lt-leb, leb-false,
 use lib.Dec.{ltb, eqb}
 use lib.ListN.{length, getD, take, drop, length-take, length-drop}
 use lib.Seq.{getD-take, getD-drop}
-use Rattle.laws.specs.Refusal.{refusal, numbered}
+use Rattle.laws.specs.Refusal.{refusal}
 use Rattle.laws.specs.Reply.{Reply, answered, refused}
 use Rattle.laws.specs.Sums.{prefixSum}
-use Rattle.laws.proofs.RefusalLaws.{refusal-append}
+use Rattle.laws.proofs.RefusalLaws.{numbered, refusal-append}
 use Rattle.laws.proofs.SearchLaws.{first-is, first-eq}
 use Rattle.laws.proofs.SumsLaws.{prefix-suc, prefix-mono, prefix-all}
 use Rattle.laws.proofs.Tests.{true-not-false}

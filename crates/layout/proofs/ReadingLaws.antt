@@ -8,10 +8,10 @@ use native.Mathlib.Omega.{arith}
 use borrow.Author.Tests.{eqb-true, not-false}
 use lib.ListN.{getD}
 use Rattle.laws.specs.Each.{some}
-use Rattle.laws.specs.Refusal.{refusal, numbered}
+use Rattle.laws.specs.Refusal.{refusal}
 use Rattle.laws.specs.Sums.{sum}
 use Rattle.laws.proofs.EachLaws.{none-at}
-use Rattle.laws.proofs.RefusalLaws.{none-true}
+use Rattle.laws.proofs.RefusalLaws.{numbered, none-true}
 use Rattle.laws.proofs.Tests.{neither-left, neither-right}
 use Rattle.coding.specs.Total.{validCode}
 use Rattle.layout.specs.Words.{word, kind, entries, theta, qn, qd, buckets, headOf, fiveWords, startIn, listedIn, start, end, span}

@@ -11,10 +11,10 @@ use borrow.Author.Tests.{eqb-true, eqb-false, eq-eqb, ne-eqb, le-ltb}
 use lib.Dec.{eqb, ltb}
 use lib.ListN.{length, getD, take, drop}
 use lib.Seq.{take-at, take-nil, getD-take}
-use Rattle.laws.specs.Refusal.{Sentence, refusal, numbered}
+use Rattle.laws.specs.Refusal.{Sentence, refusal}
 use Rattle.laws.specs.Reply.{Reply, answered, refused}
 use Rattle.laws.proofs.Tests.{tested}
-use Rattle.laws.proofs.RefusalLaws.{append-refused, append-passed}
+use Rattle.laws.proofs.RefusalLaws.{numbered, append-refused, append-passed}
 use Rattle.layout.specs.Words.{buckets}
 use Rattle.layout.proofs.Proved.{histogram}
 use Rattle.histogram.specs.Words.{words}
@@ -22,12 +22,12 @@ use Rattle.histogram.specs.Building.{quality, inputs, building, buildFault, bui
 use Rattle.exam.specs.Input.{asDescribed, numbers}
 use Rattle.exam.specs.Lines.{refusedLine}
 use Rattle.exam.specs.Sheet.{histogramSheet, listSheet, numbersSheet, sheet, filled}
-use Rattle.exam.specs.Room.{Roomy}
+use Rattle.exam.specs.Private.Room.{Roomy}
 use Rattle.exam.proofs.SheetLaws.{room, refusal-most, sets-filled}
 use Rattle.exam.proofs.Proved.{sheet-refused, sheet-read, numbers-many}
 use Rattle.input.specs.declared.Numbers.{Numbers}
 use Rattle.input.specs.Reply.{NumbersReply, numbersReply, inputReply}
-use Rattle.listing.specs.Printing.{Put}
+use Rattle.listing.specs.Private.Printing.{Put}
 
 -- ---- the builder's answer
 

@@ -16,12 +16,12 @@ use Rattle.layout.specs.Words.{entries, theta, qn, qd, buckets, headOf, start, 
 use Rattle.layout.specs.Decoded.{bucketAt, classAt, bucketletStart, bucketletEnd}
 use Rattle.exam.specs.Lines.{headLine, bucketLine, bucketletLine, refusedLine}
 use Rattle.exam.specs.Sheet.{joined, bucketletPart, bucketPart, histogramSheet}
-use Rattle.exam.specs.Room.{Roomy, Printable}
+use Rattle.exam.specs.Private.Room.{Roomy, Printable}
 use Rattle.exam.proofs.SheetLaws.{refused-short, some-part, bucketlet-short, joined-short, bucket-short, printable, buckets-short}
 use Rattle.lines.specs.declared.Line.{Line}
 use Rattle.lines.specs.Line.{Bytes, lineBytes, exactly}
 use Rattle.lines.proofs.PutLaws.{sets-append}
-use Rattle.listing.specs.Printing.{room, Put}
+use Rattle.listing.specs.Private.Printing.{room, Put}
 
 -- ---- pieces
 

@@ -9,7 +9,7 @@ ghost use mathlib.Core.Path.{_≡_};
 ghost use Prim.Native.Nat.{_≤_};
 ghost use lib.ListN.{length};
 ghost use Rattle.exam.specs.Sheet.{listSheet, sheet, filled};
-ghost use Rattle.listing.specs.Printing.{Put};
+ghost use Rattle.listing.specs.Private.Printing.{Put};
 
 // The sheet of a list, which has at most 512 buckets.
 fn put_list(freqs: &[u32], theta: u32, qn: u32, qd: u32, out: &mut [u8; 163840]) -> usize

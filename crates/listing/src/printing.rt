@@ -9,8 +9,8 @@ ghost use lib.ListN.{take};
 ghost use Rattle.layout.specs.Words.{buckets};
 ghost use Rattle.layout.specs.Decoded.{bucketletStart};
 ghost use Rattle.exam.specs.Sheet.{joined, bucketletPart, bucketPart, histogramSheet};
-ghost use Rattle.exam.specs.Room.{Roomy, Printable};
-ghost use Rattle.listing.specs.Printing.{room, Put};
+ghost use Rattle.exam.specs.Private.Room.{Roomy, Printable};
+ghost use Rattle.listing.specs.Private.Printing.{room, Put};
 
 pub fn put(line: Line, out: &mut [u8; 163840], at: usize) -> usize
     requires { ⌜ (line .length ≤ 80) × (at + line .length ≤ room) ⌝ }

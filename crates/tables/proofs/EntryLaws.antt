@@ -12,7 +12,7 @@ use Rattle.laws.proofs.Table.{at}
 use Rattle.coding.specs.Base.{base, usedClass}
 use Rattle.coding.specs.Class.{classStart, classNumber}
 use Rattle.coding.specs.Total.{middle}
-use Rattle.coding.specs.Tables.{starts, numbers, middles}
+use Rattle.coding.specs.Private.Tables.{starts, numbers, middles}
 use Rattle.coding.proofs.BaseLaws.{starts-right, numbers-right, middles-right}
 use Rattle.tables.specs.Entries.{startOf, numberOf, middleOf}
 

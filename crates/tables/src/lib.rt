@@ -2,7 +2,7 @@
 
 ghost use mathlib.Core.Path.{_≡_};
 ghost use lib.ListN.{getD};
-ghost use Rattle.coding.specs.Tables.{starts, numbers, middles};
+ghost use Rattle.coding.specs.Private.Tables.{starts, numbers, middles};
 ghost use Rattle.tables.specs.Entries.{startOf, numberOf, middleOf};
 
 fn start_entry(class: u32) -> u32

@@ -24,7 +24,7 @@ use Rattle.verdict.specs.Failing.{bucketletVerdict}
 use Rattle.verdict.specs.Checking.{bucketletAnswer, totalVerdict, bucketVerdict}
 use Rattle.verdict.proofs.Verdict.{the-type}
 use Rattle.verdict.proofs.CheckLaws.{total-decides, bucketlet-decides}
-use Rattle.verify.specs.Searching.{Classed, Totalled, Bucketed}
+use Rattle.verify.specs.Private.Searching.{Classed, Totalled, Bucketed}
 use Rattle.verify.proofs.HistogramLaws.{held, end-inside, classed}
 
 -- an answer whose place among the cases is the first or the third

@@ -6,8 +6,7 @@ use mathlib.Core.List.{List}
 use Prim.Native.Nat.{ℕ, suc, _+_, _≤_, _<_}
 use native.Mathlib.Omega.{arith}
 use lib.ListN.{length, getD}
-use Rattle.laws.specs.Refusal.{numbered}
-use Rattle.laws.proofs.RefusalLaws.{passed, none-left, append-passed}
+use Rattle.laws.proofs.RefusalLaws.{numbered, passed, none-left, append-passed}
 use Rattle.laws.proofs.SumsLaws.{prefix-suc, prefix-mono, prefix-all}
 use Rattle.layout.specs.Limits.{maxTheta}
 use Rattle.layout.specs.Words.{theta, qn, qd, buckets, end}
@@ -19,10 +18,10 @@ use Rattle.fit.specs.Frequencies.{listing}
 use Rattle.fit.specs.Accepted.{checkFault, qualityOf}
 use Rattle.layout.proofs.HeadLaws.{is-within, is-good-q}
 use Rattle.fit.proofs.FaultLaws.{matching}
-use Rattle.histogram.specs.Sound.{Sound}
+use Rattle.histogram.specs.Private.Sound.{Sound}
 use Rattle.histogram.specs.Building.{parameters}
 use Rattle.histogram.proofs.SoundLaws.{sound-of}
-use Rattle.verify.specs.Searching.{Classed}
+use Rattle.verify.specs.Private.Searching.{Classed}
 
 module _ (fs ws : List ℕ) (e : checkFault fs ws ≡ 0) where
   pub sound : Sound fs (qualityOf ws)

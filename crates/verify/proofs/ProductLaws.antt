@@ -5,7 +5,7 @@ use native.Mathlib.Nat.{mul-le-mul}
 use Rattle.coding.specs.Base.{limit}
 use Rattle.layout.specs.Limits.{maxWidth, maxTheta, maxQ}
 use Rattle.fit.specs.declared.Quality.{Quality}
-use Rattle.verify.specs.Searching.{Comparable}
+use Rattle.verify.specs.Private.Searching.{Comparable}
 
 pub record Products (q : Quality) (f x w : ℕ) : Type 0 where
   pub area : f * w ≤ limit * maxWidth

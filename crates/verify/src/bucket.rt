@@ -15,7 +15,7 @@ ghost use Rattle.coding.specs.Base.{base, limit};
 ghost use Rattle.coding.specs.Class.{classNumber};
 ghost use Rattle.verdict.specs.Failing.{bucketletVerdict};
 ghost use Rattle.verdict.specs.Checking.{totalVerdict, bucketVerdict};
-ghost use Rattle.verify.specs.Searching.{Classed, Totalled, Bucketed};
+ghost use Rattle.verify.specs.Private.Searching.{Classed, Totalled, Bucketed};
 
 // The true count of n entries from a on.
 fn count_of(freqs: &[u32], a: usize, n: usize) -> u64

@@ -11,7 +11,7 @@ ghost use Rattle.layout.specs.Words.{buckets};
 ghost use Rattle.verdict.specs.Reply.{verdictReply};
 ghost use Rattle.verdict.specs.Failing.{firstFailing};
 ghost use Rattle.verdict.specs.Checking.{bucketVerdict, checkReply};
-ghost use Rattle.verify.specs.Searching.{Checkable};
+ghost use Rattle.verify.specs.Private.Searching.{Checkable};
 
 // What fails first of all buckets, in order.
 fn buckets_verdict(freqs: &[u32], words: &[u32], q: Quality) -> Verdict

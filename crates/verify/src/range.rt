@@ -8,7 +8,7 @@ ghost use mathlib.Core.Path.{_≡_};
 ghost use Prim.Native.Nat.{_*_};
 ghost use Rattle.fit.specs.Fit.{near, fits};
 ghost use Rattle.verdict.specs.Failing.{countGood, sortOf, bucketletVerdict};
-ghost use Rattle.verify.specs.Searching.{Comparable, Searchable};
+ghost use Rattle.verify.specs.Private.Searching.{Comparable, Searchable};
 
 // Whether neither the count nor the estimate x / w is more than q times the other.
 pub(crate) fn is_near(q: Quality, count: u64, x: u64, w: u64) -> bool

@@ -5,7 +5,7 @@ use Prim.Native.Nat.{ℕ, suc, _+_, _-_}
 use native.Mathlib.Omega.{arith}
 use borrow.Author.Needs.{needs}
 use lib.ListN.{length, set}
-use Rattle.input.specs.Lines.{LineAt}
+use Rattle.input.specs.Private.Lines.{LineAt}
 use Rattle.input.proofs.ReadLaws.{Begun, begun-none, begun-more, broken-line, too-many, too-few, all-read, refused-reply}
 use Rattle.input.proofs.numbers_of.Statement.{statement}
 use Rattle.input.proofs.numbers_of.Tie as tie

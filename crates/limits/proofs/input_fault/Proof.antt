@@ -3,8 +3,7 @@
 use mathlib.Core.Path.{refl, sym, _∙_}
 use native.Mathlib.Omega.{arith}
 use borrow.Author.Needs.{needs}
-use Rattle.laws.specs.Refusal.{numbered}
-use Rattle.laws.proofs.RefusalLaws.{append-refused, append-passed}
+use Rattle.laws.proofs.RefusalLaws.{numbered, append-refused, append-passed}
 use Rattle.fit.specs.Frequencies.{listing}
 use Rattle.histogram.specs.Building.{parameters}
 use Rattle.limits.proofs.input_fault.Statement.{statement}

@@ -6,9 +6,9 @@ use borrow.Author.Needs.{needs}
 use lib.ListN.{length}
 use lib.Seq.{length-take-le}
 use Rattle.build.specs.Built.{builtReply}
-use Rattle.exam.specs.Room.{Roomy}
+use Rattle.exam.specs.Private.Room.{Roomy}
 use Rattle.exam.specs.Sheet.{histogramSheet}
-use Rattle.listing.specs.Printing.{Put}
+use Rattle.listing.specs.Private.Printing.{Put}
 use Rattle.listing.proofs.PrintLaws.{put-line, refused-room}
 use Rattle.listing.proofs.ListLaws.{refused-number, refused-sheet, count-room, words-are, words-room, built-sheet}
 use Rattle.listing.proofs.put_list.Statement.{statement}

@@ -2,7 +2,7 @@
 -- Assumes nothing.
 use borrow.Author.Needs.{needs}
 use Rattle.laws.proofs.Table.{past}
-use Rattle.coding.specs.Tables.{middles}
+use Rattle.coding.specs.Private.Tables.{middles}
 use Rattle.tables.proofs.middle_entry.Statement.{statement}
 use Rattle.tables.proofs.middle_entry.Tie as tie
 

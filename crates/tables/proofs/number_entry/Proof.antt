@@ -2,7 +2,7 @@
 -- Assumes nothing.
 use borrow.Author.Needs.{needs}
 use Rattle.laws.proofs.Table.{past}
-use Rattle.coding.specs.Tables.{numbers}
+use Rattle.coding.specs.Private.Tables.{numbers}
 use Rattle.tables.proofs.number_entry.Statement.{statement}
 use Rattle.tables.proofs.number_entry.Tie as tie
 

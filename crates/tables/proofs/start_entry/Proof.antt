@@ -2,7 +2,7 @@
 -- Assumes nothing.
 use borrow.Author.Needs.{needs}
 use Rattle.laws.proofs.Table.{past}
-use Rattle.coding.specs.Tables.{starts}
+use Rattle.coding.specs.Private.Tables.{starts}
 use Rattle.tables.proofs.start_entry.Statement.{statement}
 use Rattle.tables.proofs.start_entry.Tie as tie
 

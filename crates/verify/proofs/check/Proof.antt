@@ -6,7 +6,7 @@ use borrow.Author.Needs.{needs}
 use Rattle.layout.specs.Words.{buckets}
 use Rattle.fit.specs.declared.Quality.{Quality}
 use Rattle.fit.specs.Accepted.{checkFault}
-use Rattle.histogram.specs.Sound.{Sound}
+use Rattle.histogram.specs.Private.Sound.{Sound}
 use Rattle.verdict.specs.declared.Verdict.the-variants.{Refused}
 use Rattle.verdict.specs.Reply.{verdictReply}
 use Rattle.verdict.specs.Failing.{firstFailing}

@@ -5,7 +5,7 @@ use native.Mathlib.Omega.{arith}
 use borrow.Author.Needs.{needs}
 use borrow.Author.Tests.{lt-ltb, le-ltb}
 use Rattle.laws.proofs.Tests.{chosen, not-chosen}
-use Rattle.build.specs.Growing.{fraction}
+use Rattle.build.specs.Private.Growing.{fraction}
 use Rattle.build.proofs.growth.greater_of.Statement.{statement}
 use Rattle.build.proofs.growth.greater_of.Tie as tie
 

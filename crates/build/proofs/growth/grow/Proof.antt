@@ -16,7 +16,7 @@ use Rattle.fit.specs.declared.Quality.{Quality}
 use Rattle.histogram.specs.Width.{valueOf, fitsAt}
 use Rattle.histogram.proofs.WidthLaws.{value-small, count-some, count-small}
 use Rattle.build.specs.declared.growth.Bounds.{Bounds}
-use Rattle.build.specs.Growing.{Bounding, passes}
+use Rattle.build.specs.Private.Growing.{Bounding, passes}
 use Rattle.build.proofs.BoundLaws.{bounding-none}
 use Rattle.build.proofs.GrowLaws.{test-fits, width-is}
 use Rattle.build.proofs.growth.grow.Statement.{statement}

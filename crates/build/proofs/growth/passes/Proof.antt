@@ -11,7 +11,7 @@ use Rattle.coding.specs.Base.{limit}
 use Rattle.layout.specs.Limits.{maxQ, maxWidth}
 use Rattle.fit.specs.declared.Quality.{Quality}
 use Rattle.build.specs.declared.growth.Bounds.{Bounds}
-use Rattle.build.specs.Growing.{Testable}
+use Rattle.build.specs.Private.Growing.{Testable}
 use Rattle.build.proofs.growth.passes.Statement.{statement}
 use Rattle.build.proofs.growth.passes.Tie as tie
 

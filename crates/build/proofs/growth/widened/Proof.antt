@@ -18,7 +18,7 @@ use Rattle.coding.specs.Base.{limit}
 use Rattle.layout.specs.Limits.{maxQ}
 use Rattle.fit.specs.declared.Quality.{Quality}
 use Rattle.build.specs.declared.growth.Fraction.{Fraction}
-use Rattle.build.specs.Growing.{rangeCount, Bounding}
+use Rattle.build.specs.Private.Growing.{rangeCount, Bounding}
 use Rattle.build.proofs.BoundLaws.{Base, bounds, base-none, base-step, base-le, count-small, bounding-row, bounding-step, bounding-split}
 use Rattle.build.proofs.growth.widened.Statement.{statement}
 use Rattle.build.proofs.growth.widened.Tie as tie

@@ -9,7 +9,7 @@ use lib.Dec.{ltb, eqb}
 use lib.ListN.{length, getD}
 use Rattle.laws.proofs.Tests.{both, both-left, both-right, true-not-false}
 use Rattle.layout.proofs.HeadLaws.{within}
-use Rattle.input.specs.Lines.{Stepped}
+use Rattle.input.specs.Private.Lines.{Stepped}
 use Rattle.input.proofs.ScanLaws.{Scanned, scanned-none, scanned-more, ended, empty-line, no-digit, after-zero, too-large, not-ended}
 use Rattle.input.proofs.line.line_at.Statement.{statement}
 use Rattle.input.proofs.line.line_at.Tie as tie

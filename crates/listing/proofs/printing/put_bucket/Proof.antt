@@ -10,7 +10,7 @@ use Rattle.counts.specs.Reply.{meaningReply}
 use Rattle.counts.proofs.CallLaws.{total-read}
 use Rattle.layout.specs.declared.Bucket.{Bucket}
 use Rattle.layout.proofs.Proved.{histogram}
-use Rattle.listing.specs.Printing.{Put}
+use Rattle.listing.specs.Private.Printing.{Put}
 use Rattle.listing.proofs.PrintLaws.{put-both, line-length, put-line, bucket-printable, bucket-line-room, bucket-whole}
 use Rattle.listing.proofs.printing.put_bucket.Statement.{statement}
 use Rattle.listing.proofs.printing.put_bucket.Tie as tie

@@ -12,7 +12,7 @@ use Rattle.counts.specs.Reply.{meaningReply}
 use Rattle.counts.proofs.CallLaws.{class-read}
 use Rattle.layout.specs.Decoded.{classAt}
 use Rattle.exam.proofs.SheetLaws.{empty-part, bucketlet-short}
-use Rattle.listing.specs.Printing.{Put}
+use Rattle.listing.specs.Private.Printing.{Put}
 use Rattle.listing.proofs.PrintLaws.{put-nothing, part-line, line-length, put-line, next-start}
 use Rattle.listing.proofs.printing.put_bucketlet.Statement.{statement}
 use Rattle.listing.proofs.printing.put_bucketlet.Tie as tie

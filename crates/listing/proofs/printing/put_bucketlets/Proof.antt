@@ -5,7 +5,7 @@ use native.Mathlib.Omega.{arith}
 use borrow.Author.Needs.{needs}
 use lib.ListN.{getD}
 use Rattle.exam.specs.Sheet.{joined, bucketletPart}
-use Rattle.listing.specs.Printing.{Put}
+use Rattle.listing.specs.Private.Printing.{Put}
 use Rattle.listing.proofs.PrintLaws.{Some, none, some-more, some-room, next-start}
 use Rattle.listing.proofs.printing.put_bucketlets.Statement.{statement}
 use Rattle.listing.proofs.printing.put_bucketlets.Tie as tie

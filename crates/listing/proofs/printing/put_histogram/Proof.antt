@@ -7,7 +7,7 @@ use Rattle.layout.specs.Words.{buckets}
 use Rattle.exam.specs.Sheet.{joined, bucketPart}
 use Rattle.exam.proofs.SheetLaws.{first-line-short}
 use Rattle.lines.specs.Line.{exactly}
-use Rattle.listing.specs.Printing.{Put}
+use Rattle.listing.specs.Private.Printing.{Put}
 use Rattle.listing.proofs.PrintLaws.{put-nothing, line-length, put-line, head-text, next-room, more-buckets, all-buckets}
 use Rattle.listing.proofs.printing.put_histogram.Statement.{statement}
 use Rattle.listing.proofs.printing.put_histogram.Tie as tie

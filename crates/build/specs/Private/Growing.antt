@@ -6,12 +6,12 @@ use mathlib.Core.List.{List}
 use Prim.Native.Nat.{ℕ, suc, _+_, _*_, _^_, _≤_, _<_, max}
 use lib.Dec.{leb, ltb}
 use lib.ListN.{length}
-use Rattle.laws.specs.Greatest.{Greatest}
+use Rattle.laws.specs.Private.Greatest.{Greatest}
 use Rattle.laws.specs.Sums.{partSum}
 use Rattle.coding.specs.Base.{limit}
 use Rattle.layout.specs.Limits.{maxQ, maxWidth}
 use Rattle.fit.specs.declared.Quality.{Quality}
-use Rattle.histogram.specs.Sound.{Sound}
+use Rattle.histogram.specs.Private.Sound.{Sound}
 use Rattle.build.specs.declared.growth.Fraction.{Fraction}
 use Rattle.build.specs.declared.growth.Bounds.{Bounds}
 

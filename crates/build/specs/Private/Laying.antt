@@ -5,7 +5,7 @@ use Prim.Native.Nat.{ℕ, _+_, _≤_}
 use lib.ListN.{length}
 use Rattle.laws.specs.Sums.{sum}
 use Rattle.fit.specs.declared.Quality.{Quality}
-use Rattle.histogram.specs.Sound.{Sound}
+use Rattle.histogram.specs.Private.Sound.{Sound}
 use Rattle.histogram.specs.Bucket.{bucketWidths, bucketFrom}
 use Rattle.build.specs.declared.bucket.Placed.{Placed}
 

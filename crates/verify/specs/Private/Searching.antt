@@ -11,7 +11,7 @@ use Rattle.layout.specs.Limits.{maxWidth, maxTheta, maxQ}
 use Rattle.layout.specs.Words.{buckets}
 use Rattle.fit.specs.declared.Quality.{Quality}
 use Rattle.fit.specs.Accepted.{checkFault}
-use Rattle.histogram.specs.Sound.{Sound}
+use Rattle.histogram.specs.Private.Sound.{Sound}
 
 -- a count and an estimate x / w whose products are small
 pub record Comparable (q : Quality) (f x w : ℕ) : Type 0 where
