@@ -16,7 +16,7 @@ use Rattle.layout.specs.Limits.{maxWidth}
 use Rattle.estimate.specs.declared.Fraction.{Fraction}
 use Rattle.estimate.proofs.CutLaws.{cuts, cuts-most}
 use Rattle.estimate.proofs.SizeLaws.{Sized}
-use Rattle.asking.specs.Asked.{Small, ClassIn}
+use Rattle.asking.specs.Private.Adding.{Small, ClassIn}
 
 none-value : (r : Reply) → r ≡ classMeaning 0 → r .value ≡ classNumber base 0
 unfolding classMeaning classNumber

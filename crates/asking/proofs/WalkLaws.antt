@@ -27,7 +27,7 @@ use Rattle.estimate.proofs.ExactLaws.{piece-none, bucket-whole, bucket-parts}
 use Rattle.estimate.proofs.CutLaws.{rises}
 use Rattle.estimate.proofs.SpanLaws.{bucketlet-end, bucketlets-rise, first-bucketlet, last-bucketlet, edge, edges-rise, edge-last, bucketlets-hold, buckets-hold}
 use Rattle.estimate.proofs.SizeLaws.{Sized, sized-joined, bucketlet-sized, total-sized, class-small}
-use Rattle.asking.specs.Asked.{Small, ClassIn}
+use Rattle.asking.specs.Private.Adding.{Small, ClassIn}
 use Rattle.asking.proofs.AskLaws.{small-of}
 
 -- the first k bucketlets of a bucket are summed

@@ -1,16 +1,6 @@
--- The number and the value of each case of the estimator's answer, and the words of the private contracts.
+-- The number and the value of each case of the estimator's answer, and the case that a reply is.
 -- Assumes nothing.
-use mathlib.Core.Path.{_≡_}
-use mathlib.Core.Bool.{true}
-use mathlib.Core.Logic.{_⊎_}
-use Prim.Native.Nat.{ℕ, _+_, _*_, _^_, _≤_, _<_}
-use Rattle.laws.specs.Reply.{Reply, answered, refused}
-use Rattle.coding.specs.Base.{base, usedClass}
-use Rattle.coding.specs.Class.{classNumber}
-use Rattle.layout.specs.Limits.{maxWidth}
-use Rattle.estimate.specs.declared.Fraction.{Fraction}
-use Rattle.estimate.specs.Fraction.{plus}
-use Rattle.estimate.specs.Exact.{piece}
+use Rattle.laws.specs.Reply.{Reply, answered, refused, caseOf}
 use Rattle.asking.specs.declared.Asked.{Asked}
 use Rattle.asking.specs.declared.Asked.the-variants.{Estimate, Refused}
 
@@ -18,20 +8,5 @@ abbrev pub askedReply : Asked → Reply
 askedReply (Estimate n) = answered n
 askedReply (Refused number) = refused number
 
--- all that is reckoned with it stays far below 2^64
-pub record Small (e : Fraction) : Type 0 where
-  pub whole-small : e .whole ≤ 2 ^ 47
-  pub bottom-some : 0 < e .bottom
-  pub bottom-small : e .bottom ≤ maxWidth ^ 2
-  pub top-small : e .top ≤ 2 ^ 32 * e .bottom
-
--- a class that a readable list may hold
-abbrev pub ClassIn : ℕ → Type 0
-ClassIn c = (c ≡ 0) ⊎ (usedClass c ≡ true)
-
--- a bucketlet that may be added to a sum
-pub record Addable (sum : Fraction) (x y a w class : ℕ) : Type 0 where
-  pub class-in : ClassIn class
-  pub within : a + w ≤ 65536
-  pub number-small : classNumber base class ≤ 2 ^ 31
-  pub small : Small (plus sum (piece x y a w (classNumber base class)))
+abbrev pub askedOf : Reply → Asked
+askedOf r = caseOf Estimate Refused r

@@ -7,7 +7,8 @@ use pieces::exact_of;
 ghost use mathlib.Core.Path.{_≡_};
 ghost use Rattle.estimate.specs.Fraction.{rounded};
 ghost use Rattle.estimate.specs.Asking.{askFault, estimateReply};
-ghost use Rattle.asking.specs.Asked.{Small, askedReply};
+ghost use Rattle.asking.specs.Asked.{askedReply, askedOf};
+ghost use Rattle.asking.specs.Private.Adding.{Small};
 
 // The estimate, or the number of the refusal.
 pub enum Asked {
@@ -42,6 +43,7 @@ fn rounded_of(e: Fraction) -> u64
 // The estimate of the range from x to y: one sum, rounded up once.
 pub fn estimate(words: &[u32], x: u32, y: u32) -> Asked
     ensures { λ r. ⌜ askedReply r ≡ estimateReply (now (words .entry)) x y ⌝ }
+    ensures { λ r. ⌜ r ≡ askedOf (estimateReply (now (words .entry)) x y) ⌝ }
 {
     let fault = ask_fault(words, x, y);
     if fault != 0 {

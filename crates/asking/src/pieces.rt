@@ -12,7 +12,7 @@ ghost use Rattle.layout.specs.Words.{buckets};
 ghost use Rattle.layout.specs.Reading.{Readable};
 ghost use Rattle.estimate.specs.Fraction.{plus};
 ghost use Rattle.estimate.specs.Exact.{inside, overlap, piece, bucketPiece, exact};
-ghost use Rattle.asking.specs.Asked.{Small, ClassIn, Addable};
+ghost use Rattle.asking.specs.Private.Adding.{Small, ClassIn, Addable};
 
 fn wide(x: u32) -> u64
     ensures { λ r. ⌜ r ≡ x ⌝ }

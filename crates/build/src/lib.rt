@@ -11,7 +11,7 @@ ghost use mathlib.Core.Path.{_≡_};
 ghost use Prim.Native.Nat.{_≤_};
 ghost use lib.ListN.{length, take, drop};
 ghost use Rattle.histogram.specs.Building.{buildReply, written};
-ghost use Rattle.build.specs.Built.{builtReply};
+ghost use Rattle.build.specs.Built.{builtReply, builtOf};
 
 // The number of words written, or the number of the refusal.
 pub enum Built {
@@ -35,6 +35,7 @@ fn copy(words: &[u32], n: usize, out: &mut [u32])
 // length is known before a word is written. Refused with 1 to 6, it writes nothing.
 pub fn build(freqs: &[u32], theta: u32, qn: u32, qd: u32, out: &mut [u32]) -> Built
     ensures { λ r. ⌜ builtReply r ≡ buildReply (now (freqs .entry)) theta qn qd (length (now (out .entry))) ⌝ }
+    ensures { λ r. ⌜ r ≡ builtOf (buildReply (now (freqs .entry)) theta qn qd (length (now (out .entry)))) ⌝ }
     ensures { λ r. ⌜ now (out .exit) ≡ written (now (freqs .entry)) theta qn qd (now (out .entry)) ⌝ }
 {
     let fault = limits::input_fault(freqs, theta, qn, qd);

@@ -12,7 +12,9 @@ use lib.Bits.{bitOr, or-shifted}
 use lib.Count.{leadingZeros, leading-top}
 use lib.Pow.{pow-add, pow-mono}
 use Rattle.laws.specs.Each.{each}
+use Rattle.laws.specs.Reply.{answered, refused, caseOf}
 use Rattle.laws.proofs.EachLaws.{each-at}
+use Rattle.laws.proofs.ReplyLaws.{answered-case, refused-case}
 use Rattle.laws.proofs.Tests.{true-not-false, both, both-left, both-right, is-false, same-test}
 use Rattle.coding.specs.Base.{base, limit, countable, usedClass}
 use Rattle.coding.specs.Class.{classOf, classStart, classNumber}
@@ -21,17 +23,19 @@ use Rattle.coding.proofs.ClassLaws.{Reached, class-eq, start-is, reached-up, re
 use Rattle.coding.proofs.BaseLaws.{used-says, reached-by-two, reached-small}
 use Rattle.coding.proofs.TotalLaws.{Valid, shift-eq, shift-small, bits-small, valid-says, says-valid, number-small}
 use Rattle.tables.specs.Entries.{startOf, numberOf, middleOf}
-use Rattle.laws.specs.Reply.{answered, refused}
 
 -- ---- a test decides between the answer and the refusal
 
-pub replied : (t : Bool) (w v n : ℕ) → t ≡ true → w ≡ v → answered w ≡ cond t (answered v) (refused n)
-replied true w v n e q = ap answered q
-replied false w v n e q = absurd (true-not-false e refl)
+module _ {A : Type 0} (value refusal : ℕ → A) where
+  pub replied : (t : Bool) (w v n : ℕ) → t ≡ true → w ≡ v
+      → (answered w ≡ cond t (answered v) (refused n)) × (value w ≡ caseOf value refusal (cond t (answered v) (refused n)))
+  replied true w v n e q = answered-case value refusal w (answered v) (ap answered q)
+  replied false w v n e q = absurd (true-not-false e refl)
 
-pub turned-away : (t : Bool) (v n : ℕ) → t ≡ false → refused n ≡ cond t (answered v) (refused n)
-turned-away true v n e = absurd (true-not-false refl e)
-turned-away false v n e = refl
+  pub turned-away : (t : Bool) (v n : ℕ) → t ≡ false → (n ≡ 0 → ⊥)
+      → (refused n ≡ cond t (answered v) (refused n)) × (refusal n ≡ caseOf value refusal (cond t (answered v) (refused n)))
+  turned-away true v n e z = absurd (true-not-false refl e)
+  turned-away false v n e z = refused-case value refusal n (refused n) z refl
 
 pub in-range : (v : ℕ) → 1 ≤ v → v ≤ limit → countable v ≡ true
 in-range v h l = both (leb 1 v) (leb v limit) (le-leb 1 v h) (le-leb v limit l)

@@ -2,7 +2,7 @@
 -- Assumes nothing.
 use mathlib.Core.Bool.{cond}
 use Prim.Native.Nat.{ℕ}
-use Rattle.laws.specs.Reply.{Reply, answered, refused}
+use Rattle.laws.specs.Reply.{Reply, answered, refused, caseOf}
 use Rattle.coding.specs.Base.{base, countable, usedClass}
 use Rattle.coding.specs.Class.{classOf, classNumber}
 use Rattle.coding.specs.Total.{totalCode, totalNumber, validCode}
@@ -19,6 +19,13 @@ codedReply NotCoded = refused 16
 abbrev pub meaningReply : Meaning → Reply
 meaningReply (Number n) = answered n
 meaningReply NotRead = refused 17
+
+-- and the answer of a reply
+abbrev pub codedOf : Reply → Coded
+codedOf r = caseOf Code (λ _. NotCoded) r
+
+abbrev pub meaningOf : Reply → Meaning
+meaningOf r = caseOf Number (λ _. NotRead) r
 
 -- 16 for a count that is 0 or above the limit
 unfoldable pub classReply : ℕ → Reply

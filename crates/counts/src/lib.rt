@@ -8,7 +8,7 @@ ghost use Rattle.coding.specs.Base.{base, limit};
 ghost use Rattle.coding.specs.Class.{classOf};
 ghost use Rattle.coding.specs.Total.{shift, validFields, validCode};
 ghost use Rattle.tables.specs.Entries.{startOf};
-ghost use Rattle.counts.specs.Reply.{codedReply, meaningReply};
+ghost use Rattle.counts.specs.Reply.{codedReply, meaningReply, codedOf, meaningOf};
 ghost use Rattle.counts.specs.Reply.{classReply, classMeaning, totalReply, totalMeaning};
 
 // The largest count that is coded.
@@ -50,6 +50,7 @@ fn class_search(count: u32) -> u32
 // The class of a count, or 16.
 pub fn class_of(count: u32) -> Coded
     ensures { λ r. ⌜ codedReply r ≡ classReply count ⌝ }
+    ensures { λ r. ⌜ r ≡ codedOf (classReply count) ⌝ }
 {
     if count == 0 {
         return Coded::Refused;
@@ -63,6 +64,7 @@ pub fn class_of(count: u32) -> Coded
 // The number that a class stands for, or 17.
 pub fn number_of_class(class: u32) -> Meaning
     ensures { λ r. ⌜ meaningReply r ≡ classMeaning class ⌝ }
+    ensures { λ r. ⌜ r ≡ meaningOf (classMeaning class) ⌝ }
 {
     if class == 0 {
         return Meaning::Refused;
@@ -89,6 +91,7 @@ fn shift_of(total: u32) -> u32
 // The code of a total, or 16: its highest seven bits above the shift that they had.
 pub fn code_of_total(total: u32) -> Coded
     ensures { λ r. ⌜ codedReply r ≡ totalReply total ⌝ }
+    ensures { λ r. ⌜ r ≡ codedOf (totalReply total) ⌝ }
 {
     if total == 0 {
         return Coded::Refused;
@@ -130,6 +133,7 @@ pub fn is_total_code(code: u32) -> bool
 // The number that a total code stands for, or 17.
 pub fn number_of_total(code: u32) -> Meaning
     ensures { λ r. ⌜ meaningReply r ≡ totalMeaning code ⌝ }
+    ensures { λ r. ⌜ r ≡ meaningOf (totalMeaning code) ⌝ }
 {
     if !is_total_code(code) {
         return Meaning::Refused;

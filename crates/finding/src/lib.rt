@@ -1,11 +1,11 @@
 // The bucket of an entry: the place of its five words in the caller's own list, and those words themselves.
 
 ghost use mathlib.Core.Path.{_≡_};
-ghost use Prim.Native.Nat.{_<_};
+ghost use Prim.Native.Nat.{_+_, _*_, _<_};
 ghost use Rattle.layout.specs.Words.{entries};
 ghost use Rattle.layout.specs.Reading.{Readable};
 ghost use Rattle.layout.specs.Finding.{findFault, bucketOf, findReply, found};
-ghost use Rattle.finding.specs.Place.{placeReply};
+ghost use Rattle.finding.specs.Place.{placeReply, placeOf};
 
 // Where a bucket's first word stands, or the number of the refusal.
 pub enum Place {
@@ -48,6 +48,7 @@ fn bucket_of(words: &[u32], entry: u32) -> usize
 // The place of the first of the five words of the entry's bucket, or the number that find_fault gives.
 pub fn find_place(words: &[u32], entry: u32) -> Place
     ensures { λ r. ⌜ placeReply r ≡ findReply (now (words .entry)) entry ⌝ }
+    ensures { λ r. ⌜ r ≡ placeOf (findReply (now (words .entry)) entry) ⌝ }
 {
     let number = find_fault(words, entry);
     if number != 0 {
@@ -56,9 +57,11 @@ pub fn find_place(words: &[u32], entry: u32) -> Place
     Place::At(words::HEAD_WORDS + words::BUCKET_WORDS * bucket_of(words, entry))
 }
 
-// The five words of the entry's bucket; the empty part at the list's start where find_fault gives a number.
+// The five words of the entry's bucket; the empty part at the list's start where find_fault gives a number. Either begins in the caller's own
+// list, at the place that is replied, four bytes a word.
 pub fn find(words: &[u32], entry: u32) -> &[u32]
     ensures { λ r. ⌜ now r ≡ found (now (words .entry)) entry ⌝ }
+    ensures { λ r. ⌜ (r .ptr .0 ≡ words .entry .ptr .0) × (r .ptr .1 ≡ words .entry .ptr .1 + 4 * findReply (now (words .entry)) entry .value) ⌝ }
 {
     let Place::At(at) = find_place(words, entry) else {
         return &words[0..0];

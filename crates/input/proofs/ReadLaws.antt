@@ -3,28 +3,32 @@
 use mathlib.Core.Path.{_≡_, refl, sym, ap, _∙_}
 use mathlib.Core.Bool.{Bool, true, false, cond}
 use mathlib.Core.List.{List, [], _∷_, _++_, append-nil}
-use Prim.Native.Nat.{ℕ, suc, _+_, _≤_, _<_}
+use Prim.Native.Nat.{ℕ, suc, _+_, _-_, _≤_, _<_}
 use native.Mathlib.Omega.{arith}
-use lib.ListN.{length, take, drop, set, length-set, length-append, drop-of-length-le}
+use lib.ListN.{length, take, drop, set, length-set, length-append, length-replicate, drop-of-length-le}
 use lib.Seq.{take-suc-set, append-snoc, length-take-le}
+use Rattle.laws.specs.Padded.{zeros}
+use Rattle.laws.proofs.PaddedLaws.{zeros-after, is-padded}
 use Rattle.laws.proofs.Tests.{both, fails-left, fails-right, is-false}
 use Rattle.layout.specs.Limits.{between}
 use Rattle.layout.proofs.HeadLaws.{within, is-within}
 use Rattle.exam.specs.Input.{lines, every, allNumerals, numbers, leastNumbers, mostNumbers, asDescribed}
 use Rattle.input.specs.declared.Numbers.{Numbers}
 use Rattle.input.specs.Private.Lines.{Stepped}
-use Rattle.input.specs.Reply.{NumbersReply, numbersReply, inputReply}
+use Rattle.input.specs.Numbers.{numbersOf, inputNumbers}
 
 -- n numbers are read, of the bytes before `start`
 pub record Begun (input values : List ℕ) (n start : ℕ) : Type 0 where
   pub inside : start ≤ length input
   pub many : n ≤ mostNumbers
   pub room : length values ≡ mostNumbers
+  pub past : drop n values ≡ zeros (mostNumbers - n)
   pub numerals : allNumerals (lines input) ≡ allNumerals (lines (drop start input))
   pub read : numbers input ≡ take n values ++ numbers (drop start input)
 
-pub begun-none : (input values : List ℕ) → length values ≡ mostNumbers → Begun input values 0 0
-begun-none input values h = record { inside = omega arith; many = omega arith; room = h; numerals = refl; read = refl }
+pub begun-none : (input : List ℕ) → Begun input (zeros mostNumbers) 0 0
+begun-none input =
+    record { inside = omega arith; many = omega arith; room = length-replicate {A = ℕ} mostNumbers 0; past = refl; numerals = refl; read = refl }
 
 not-described : (input : List ℕ) → between leastNumbers mostNumbers (length (numbers input)) ≡ false → asDescribed input ≡ false
 unfolding asDescribed
@@ -40,6 +44,7 @@ module _ (input values : List ℕ) (n start : ℕ) (b : Begun input values n sta
         inside = s .inside;
         many = h;
         room = length-set values n v ∙ b .room;
+        past = zeros-after mostNumbers n v values (b .past);
         numerals = b .numerals ∙ s .numerals;
         read =
             b .read
@@ -84,22 +89,16 @@ module _ (input values : List ℕ) (n start : ℕ) (b : Begun input values n sta
         (b .numerals ∙ ap (λ (l : List ℕ). allNumerals (lines l)) nothing)
         (is-within leastNumbers mostNumbers (length (numbers input)) (record { least = omega (arith, how-many); most = omega (arith, how-many, b .many) }))
 
-    pub all-read : leastNumbers ≤ n → record { refusal = 0; count = n; numbers = take n values } ≡ inputReply input
-    unfolding inputReply
+    pub all-read : leastNumbers ≤ n → record { refusal = 0; count = n; values = values } ≡ inputNumbers input
+    unfolding inputNumbers
     all-read h =
-        ap (λ (k : ℕ). answer k (take n values)) (sym how-many)
-        ∙ ap (answer (length (numbers input))) (sym numbers-are)
-        ∙ ap (λ (t : Bool). cond t (answer (length (numbers input)) (numbers input)) (record { refusal = 18; count = 0; numbers = [] })) (sym (described h))
+        ap (λ (k : ℕ). answer k values) (sym how-many)
+        ∙ ap (answer (length (numbers input))) (is-padded mostNumbers n values (numbers input) (sym numbers-are) how-many (b .past))
+        ∙ ap (λ (t : Bool). cond t (numbersOf 0 (numbers input)) (numbersOf 18 [])) (sym (described h))
       where
-        answer : ℕ → List ℕ → NumbersReply
-        answer k l = record { refusal = 0; count = k; numbers = l }
+        answer : ℕ → List ℕ → Numbers
+        answer k l = record { refusal = 0; count = k; values = l }
 
-pub refused-reply : (input : List ℕ) (r : Numbers) → r .refusal ≡ 18 → r .count ≡ 0 → asDescribed input ≡ false → numbersReply r ≡ inputReply input
-unfolding inputReply
-refused-reply input r e z h =
-    ap (λ (k : ℕ). reply k (r .count)) e
-    ∙ ap (reply 18) z
-    ∙ ap (λ (t : Bool). cond t (record { refusal = 0; count = length (numbers input); numbers = numbers input }) (record { refusal = 18; count = 0; numbers = [] })) (sym h)
-  where
-    reply : ℕ → ℕ → NumbersReply
-    reply k n = record { refusal = k; count = n; numbers = take n (r .values) }
+pub refused-numbers : (input : List ℕ) (r : Numbers) → r ≡ numbersOf 18 [] → asDescribed input ≡ false → r ≡ inputNumbers input
+unfolding inputNumbers
+refused-numbers input r e h = e ∙ ap (λ (t : Bool). cond t (numbersOf 0 (numbers input)) (numbersOf 18 [])) (sym h)

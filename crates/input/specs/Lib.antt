@@ -1,2 +1,2 @@
-pub mod Reply
+pub mod Numbers
 pub mod Private

@@ -5,11 +5,12 @@ mod line;
 use line::Line;
 use line::line_at;
 ghost use mathlib.Core.Path.{_≡_};
-ghost use Rattle.input.specs.Reply.{numbersReply, inputReply};
+ghost use mathlib.Core.List.{[]};
+ghost use Rattle.input.specs.Numbers.{numbersOf, inputNumbers};
 
 pub const MOST_NUMBERS: usize = 4099;
 
-// The numbers, of which the first `count` count, or the refusal 18.
+// The first `count` values are the numbers, and those after them are 0; or the refusal 18.
 pub struct Numbers {
     pub refusal: u32,
     pub count: usize,
@@ -17,7 +18,7 @@ pub struct Numbers {
 }
 
 fn refused() -> Numbers
-    ensures { λ r. ⌜ (r .refusal ≡ 18) × (r .count ≡ 0) ⌝ }
+    ensures { λ r. ⌜ r ≡ numbersOf 18 [] ⌝ }
 {
     Numbers {
         refusal: 18,
@@ -28,7 +29,7 @@ fn refused() -> Numbers
 
 // The numbers of an input: theta, qn and qd, then 1 to 4,096 frequencies. Refused with 18 where it is not as described.
 pub fn numbers_of(input: &[u8]) -> Numbers
-    ensures { λ r. ⌜ numbersReply r ≡ inputReply (now (input .entry)) ⌝ }
+    ensures { λ r. ⌜ r ≡ inputNumbers (now (input .entry)) ⌝ }
 {
     let mut values = [0u32; 4099];
     let mut n: usize = 0;

@@ -3,7 +3,9 @@ pub mod SearchLaws
 pub mod Table
 pub mod EachLaws
 pub mod RefusalLaws
+pub mod ReplyLaws
 pub mod SumsLaws
+pub mod PaddedLaws
 pub mod FieldLaws
 pub mod GreatestLaws
 pub mod Filled

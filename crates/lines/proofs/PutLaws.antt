@@ -2,14 +2,17 @@
 -- Assumes nothing.
 use mathlib.Core.Path.{_≡_, refl, sym, ap, _∙_}
 use mathlib.Core.List.{List, [], _∷_, _++_}
-use Prim.Native.Nat.{ℕ, suc, _+_, _/_, _%_, _≤_, _<_}
+use Prim.Native.Nat.{ℕ, suc, _+_, _-_, _/_, _%_, _≤_, _<_}
 use native.Mathlib.Nat.{zero-add}
 use native.Mathlib.Omega.{arith}
-use lib.ListN.{length, getD, set, take, drop, replicate, length-append, length-replicate}
-use lib.Seq.{sets, sets-eq, set-comm, take-at, take-suc, length-take-le}
+use lib.ListN.{length, getD, set, take, drop, length-append, length-replicate}
+use lib.Seq.{sets, sets-eq, set-comm, take-suc, length-take-le}
+use Rattle.laws.specs.Padded.{zeros, padded}
+use Rattle.laws.proofs.PaddedLaws.{drop-zeros}
 use Rattle.exam.specs.Text.{digitByte, digits}
 use Rattle.exam.proofs.TextLaws.{digits-length}
-use Rattle.lines.specs.Line.{exactly}
+use Rattle.lines.specs.declared.Line.{Line}
+use Rattle.lines.specs.Line.{lineOf}
 
 pub sets-append : (l : List ℕ) (i : ℕ) (xs ys : List ℕ) → sets l i (xs ++ ys) ≡ sets (sets l i xs) (i + length xs) ys
 sets-append l i [] ys = let same : i + 0 ≡ i = omega arith in ap (λ (k : ℕ). sets l k ys) (sym same)
@@ -41,16 +44,12 @@ byte-put l at word i h =
     ∙ sets-append l at (take i word) (getD word i 0 ∷ [])
     ∙ ap (λ (k : ℕ). set (sets l at (take i word)) (at + k) (getD word i 0)) (length-take-le i word (omega arith)))
 
--- the bytes of a line before anything is put
-abbrev zeros : List ℕ
-zeros = replicate 80 0
-
 -- what is put so far, from the start on, and where it ends
 pub record Done (bytes : List ℕ) (at : ℕ) (text : List ℕ) : Type 0 where
-  pub put : bytes ≡ sets zeros 0 text
+  pub put : bytes ≡ sets (zeros 80) 0 text
   pub end : at ≡ length text
 
-pub nothing : Done zeros 0 []
+pub nothing : Done (zeros 80) 0 []
 nothing = record { put = refl; end = refl }
 
 -- and something after it
@@ -61,14 +60,16 @@ after {bytes} {text} {at} more next end e f d =
       put =
           e
           ∙ ap (λ (l : List ℕ). sets l at more) (d .put)
-          ∙ ap (λ (k : ℕ). sets (sets zeros 0 text) k more) (d .end ∙ sym (zero-add (length text)))
-          ∙ sym (sets-append zeros 0 text more);
+          ∙ ap (λ (k : ℕ). sets (sets (zeros 80) 0 text) k more) (d .end ∙ sym (zero-add (length text)))
+          ∙ sym (sets-append (zeros 80) 0 text more);
       end = omega (arith, f, d .end, length-append text more);
     }
 
--- so the line holds it
-pub line : {bytes text : List ℕ} {n : ℕ} → n ≤ 80 → Done bytes n text → record { count = n; bytes = take n bytes } ≡ exactly text
+-- so the line is that of it
+pub line : {bytes text : List ℕ} {n : ℕ} → n ≤ 80 → Done bytes n text → record { bytes = bytes; length = n } ≡ lineOf text
+unfolding lineOf
 line {bytes} {text} {n} h d =
-    let front : take n bytes ≡ text =
-    ap (take n) (d .put ∙ sets-eq text zeros 0 (omega (arith, h, d .end, length-replicate {A = ℕ} 80 0))) ∙ take-at text (drop (0 + length text) zeros) n (sym (d .end)) in
-    ap (λ (k : ℕ). record { count = k; bytes = take n bytes }) (d .end) ∙ ap (λ (l : List ℕ). record { count = length text; bytes = l }) front
+    let rest : drop (0 + length text) (zeros 80) ≡ zeros (80 - length text) = drop-zeros (0 + length text) 80 ∙ ap (λ (k : ℕ). zeros (80 - k)) (zero-add (length text)) in
+    let all : bytes ≡ padded 80 text =
+    d .put ∙ sets-eq text (zeros 80) 0 (omega (arith, h, d .end, length-replicate {A = ℕ} 80 0)) ∙ ap (λ (l : List ℕ). text ++ l) rest in
+    ap (λ (k : ℕ). record { bytes = bytes; length = k }) (d .end) ∙ ap (λ (l : List ℕ). record { bytes = l; length = length text }) all

@@ -1,21 +1,11 @@
--- What a line holds.
+-- A line as it is handed on.
 -- Assumes nothing.
 use mathlib.Core.List.{List}
 use Prim.Native.Nat.{ℕ}
-use lib.ListN.{length, take}
+use lib.ListN.{length}
+use Rattle.laws.specs.Padded.{padded}
 use Rattle.lines.specs.declared.Line.{Line}
 
--- how many bytes, and these
-pub record Bytes : Type 0 where
-  pub count : ℕ
-  pub bytes : List ℕ
-
-abbrev pub lineBytes : Line → Bytes
-lineBytes l = record { count = l .length; bytes = take (l .length) (l .bytes) }
-
-abbrev pub exactly : List ℕ → Bytes
-exactly bytes = record { count = length bytes; bytes = bytes }
-
--- of a number of 32 bits
-abbrev pub maxDigits : ℕ
-maxDigits = 10
+-- the line of a text: its bytes, and 0 after them
+unfoldable pub lineOf : List ℕ → Line
+lineOf text = record { bytes = padded 80 text; length = length text }

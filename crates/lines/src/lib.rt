@@ -8,9 +8,13 @@ ghost use lib.ListN.{length};
 ghost use lib.Seq.{sets};
 ghost use Rattle.exam.specs.Text.{decimal, places};
 ghost use Rattle.exam.specs.Lines.{headLine, bucketLine, bucketletLine, refusedLine};
-ghost use Rattle.lines.specs.Line.{lineBytes, exactly, maxDigits};
+ghost use Rattle.lines.specs.Line.{lineOf};
+ghost use Rattle.lines.specs.Private.Digits.{maxDigits};
 
-// The first `length` bytes are the line.
+// A line before anything is put.
+const BLANK: [u8; 80] = [0; 80];
+
+// The first `length` bytes are the line, and those after them are 0.
 pub struct Line {
     pub bytes: [u8; 80],
     pub length: usize,
@@ -69,9 +73,9 @@ fn put(bytes: &mut [u8; 80], at: usize, word: &[u8], n: u32) -> usize
 
 // d, theta, q and the number of buckets.
 pub fn head_line(head: Head) -> Line
-    ensures { λ r. ⌜ lineBytes r ≡ exactly (headLine (head .entries) (head .theta) (head .qn) (head .qd) (head .buckets)) ⌝ }
+    ensures { λ r. ⌜ r ≡ lineOf (headLine (head .entries) (head .theta) (head .qn) (head .qd) (head .buckets)) ⌝ }
 {
-    let mut bytes = [0u8; 80];
+    let mut bytes = BLANK;
     let a = put(&mut bytes, 0, b"codes ", head.entries);
     let b = put(&mut bytes, a, b" theta ", head.theta);
     let c = put(&mut bytes, b, b" q ", head.qn);
@@ -83,9 +87,9 @@ pub fn head_line(head: Head) -> Line
 
 // A bucket's start, end, total code and number.
 pub fn bucket_line(start: u32, end: u32, code: u32, number: u32) -> Line
-    ensures { λ r. ⌜ lineBytes r ≡ exactly (bucketLine start end code number) ⌝ }
+    ensures { λ r. ⌜ r ≡ lineOf (bucketLine start end code number) ⌝ }
 {
-    let mut bytes = [0u8; 80];
+    let mut bytes = BLANK;
     let a = put(&mut bytes, 0, b"bucket ", start);
     let b = put(&mut bytes, a, b" ", end);
     let c = put(&mut bytes, b, b" total ", code);
@@ -96,9 +100,9 @@ pub fn bucket_line(start: u32, end: u32, code: u32, number: u32) -> Line
 
 // A bucketlet's start, end, class and number.
 pub fn bucketlet_line(start: u32, end: u32, class: u32, number: u32) -> Line
-    ensures { λ r. ⌜ lineBytes r ≡ exactly (bucketletLine start end class number) ⌝ }
+    ensures { λ r. ⌜ r ≡ lineOf (bucketletLine start end class number) ⌝ }
 {
-    let mut bytes = [0u8; 80];
+    let mut bytes = BLANK;
     let a = put_number(&mut bytes, 0, start);
     let b = put(&mut bytes, a, b" ", end);
     let c = put(&mut bytes, b, b" code ", class);
@@ -109,9 +113,9 @@ pub fn bucketlet_line(start: u32, end: u32, class: u32, number: u32) -> Line
 
 // A refusal's number.
 pub fn refused_line(number: u32) -> Line
-    ensures { λ r. ⌜ lineBytes r ≡ exactly (refusedLine number) ⌝ }
+    ensures { λ r. ⌜ r ≡ lineOf (refusedLine number) ⌝ }
 {
-    let mut bytes = [0u8; 80];
+    let mut bytes = BLANK;
     let a = put(&mut bytes, 0, b"refused ", number);
     let length = put_word(&mut bytes, a, b"\n");
     Line { bytes, length }

@@ -14,19 +14,20 @@ use lib.Seq.{take-at, take-nil, getD-take}
 use Rattle.laws.specs.Refusal.{Sentence, refusal}
 use Rattle.laws.specs.Reply.{Reply, answered, refused}
 use Rattle.laws.proofs.Tests.{tested}
+use Rattle.laws.proofs.PaddedLaws.{padded-front}
 use Rattle.laws.proofs.RefusalLaws.{numbered, append-refused, append-passed}
 use Rattle.layout.specs.Words.{buckets}
 use Rattle.layout.proofs.Proved.{histogram}
 use Rattle.histogram.specs.Words.{words}
 use Rattle.histogram.specs.Building.{quality, inputs, building, buildFault, buildReply, written}
-use Rattle.exam.specs.Input.{asDescribed, numbers}
+use Rattle.exam.specs.Input.{mostNumbers, asDescribed, numbers}
 use Rattle.exam.specs.Lines.{refusedLine}
 use Rattle.exam.specs.Sheet.{histogramSheet, listSheet, numbersSheet, sheet, filled}
 use Rattle.exam.specs.Private.Room.{Roomy}
 use Rattle.exam.proofs.SheetLaws.{room, refusal-most, sets-filled}
 use Rattle.exam.proofs.Proved.{sheet-refused, sheet-read, numbers-many}
 use Rattle.input.specs.declared.Numbers.{Numbers}
-use Rattle.input.specs.Reply.{NumbersReply, numbersReply, inputReply}
+use Rattle.input.specs.Numbers.{numbersOf, inputNumbers}
 use Rattle.listing.specs.Private.Printing.{Put}
 
 -- ---- the builder's answer
@@ -126,40 +127,39 @@ part-of-front zero m l = ap (λ (n : ℕ). take n l) (sym (zero-add m))
 part-of-front (suc k) m [] = take-nil m ∙ sym (ap (drop (suc k)) (take-nil (suc k + m)))
 part-of-front (suc k) m (x ∷ l) = part-of-front k m l ∙ ap (λ (n : ℕ). drop (suc k) (take n (x ∷ l))) (sym (suc-add k m))
 
-module _ (input : List ℕ) (r : Numbers) (e : numbersReply r ≡ inputReply input) where
-  by-described : (t : Bool) → asDescribed input ≡ t
-      → numbersReply r ≡ cond t (record { refusal = 0; count = length (numbers input); numbers = numbers input }) (record { refusal = 18; count = 0; numbers = [] })
-  unfolding inputReply
-  by-described t d = e ∙ ap (λ (x : Bool). cond x (record { refusal = 0; count = length (numbers input); numbers = numbers input }) (record { refusal = 18; count = 0; numbers = [] })) d
+module _ (input : List ℕ) (r : Numbers) (e : r ≡ inputNumbers input) where
+  by-described : (t : Bool) → asDescribed input ≡ t → r ≡ cond t (numbersOf 0 (numbers input)) (numbersOf 18 [])
+  unfolding inputNumbers
+  by-described t d = e ∙ ap (λ (x : Bool). cond x (numbersOf 0 (numbers input)) (numbersOf 18 [])) d
 
   pub refused-small : r .refusal ≤ 18
   refused-small = ⊎-elim described not (tested (asDescribed input))
     where
       described : asDescribed input ≡ true → r .refusal ≤ 18
-      described d = omega (arith, ap (λ (x : NumbersReply). x .refusal) (by-described true d))
+      described d = omega (arith, ap (λ (x : Numbers). x .refusal) (by-described true d))
 
       not : asDescribed input ≡ false → r .refusal ≤ 18
-      not d = omega (arith, ap (λ (x : NumbersReply). x .refusal) (by-described false d))
+      not d = omega (arith, ap (λ (x : Numbers). x .refusal) (by-described false d))
 
   pub refused-input : (r .refusal ≡ 0 → ⊥) → refusedLine (r .refusal) ≡ sheet input
   refused-input z = ⊎-elim described not (tested (asDescribed input))
     where
       described : asDescribed input ≡ true → refusedLine (r .refusal) ≡ sheet input
-      described d = absurd (z (ap (λ (x : NumbersReply). x .refusal) (by-described true d)))
+      described d = absurd (z (ap (λ (x : Numbers). x .refusal) (by-described true d)))
 
       not : asDescribed input ≡ false → refusedLine (r .refusal) ≡ sheet input
-      not d = ap refusedLine (ap (λ (x : NumbersReply). x .refusal) (by-described false d)) ∙ sym (sheet-refused input d)
+      not d = ap refusedLine (ap (λ (x : Numbers). x .refusal) (by-described false d)) ∙ sym (sheet-refused input d)
 
   module _ (z : r .refusal ≡ 0) where
     described : asDescribed input ≡ true
-    described = ⊎-elim (λ (d : asDescribed input ≡ true). d) (λ (d : asDescribed input ≡ false). absurd (let f = ap (λ (x : NumbersReply). x .refusal) (by-described false d) in omega (arith, z, f))) (tested (asDescribed input))
+    described = ⊎-elim (λ (d : asDescribed input ≡ true). d) (λ (d : asDescribed input ≡ false). absurd (let f = ap (λ (x : Numbers). x .refusal) (by-described false d) in omega (arith, z, f))) (tested (asDescribed input))
 
     numbers-are : take (r .count) (r .values) ≡ numbers input
-    numbers-are = ap (λ (x : NumbersReply). x .numbers) (by-described true described)
+    numbers-are = ap (λ (x : Numbers). take (x .count) (x .values)) (by-described true described) ∙ padded-front mostNumbers (numbers input)
 
     pub count-many : (4 ≤ r .count) × (r .count ≤ 4099)
     count-many =
-        let c = ap (λ (x : NumbersReply). x .count) (by-described true described) in
+        let c = ap (λ (x : Numbers). x .count) (by-described true described) in
         let m = numbers-many input described in
         (omega (arith, c, m .0), omega (arith, c, m .1))
 

@@ -7,6 +7,7 @@ use native.Mathlib.Omega.{arith}
 use lib.ListN.{length, getD, take, length-append}
 use lib.Seq.{sets}
 use Rattle.laws.proofs.SumsLaws.{prefix-suc}
+use Rattle.laws.proofs.PaddedLaws.{padded-front}
 use Rattle.coding.specs.Base.{base}
 use Rattle.coding.specs.Class.{classNumber}
 use Rattle.coding.specs.Total.{totalNumber}
@@ -19,7 +20,7 @@ use Rattle.exam.specs.Sheet.{joined, bucketletPart, bucketPart, histogramSheet}
 use Rattle.exam.specs.Private.Room.{Roomy, Printable}
 use Rattle.exam.proofs.SheetLaws.{refused-short, some-part, bucketlet-short, joined-short, bucket-short, printable, buckets-short}
 use Rattle.lines.specs.declared.Line.{Line}
-use Rattle.lines.specs.Line.{Bytes, lineBytes, exactly}
+use Rattle.lines.specs.Line.{lineOf}
 use Rattle.lines.proofs.PutLaws.{sets-append}
 use Rattle.listing.specs.Private.Printing.{room, Put}
 
@@ -39,15 +40,18 @@ put-both {old} {middle} {new} {text} {more} {at} {next} {end} p q =
       ends = omega (arith, p .ends, q .ends, length-append text more);
     }
 
--- a line that holds a text is as long, and puts it
-pub line-length : (l : Line) (text : List ℕ) → lineBytes l ≡ exactly text → l .length ≡ length text
-line-length l text e = ap (λ (b : Bytes). b .count) e
+-- the line of a text is as long, and puts it
+pub line-length : (l : Line) (text : List ℕ) → l ≡ lineOf text → l .length ≡ length text
+unfolding lineOf
+line-length l text e = ap (λ (k : Line). k .length) e
 
-pub put-line : {old new : List ℕ} {at end : ℕ} (l : Line) (text : List ℕ) → lineBytes l ≡ exactly text → Put old new at end (take (l .length) (l .bytes)) → Put old new at end text
-put-line {old} {new} {at} {end} l text e p = subst (Put old new at end) (ap (λ (b : Bytes). b .bytes) e) p
+pub put-line : {old new : List ℕ} {at end : ℕ} (l : Line) (text : List ℕ) → l ≡ lineOf text → Put old new at end (take (l .length) (l .bytes)) → Put old new at end text
+unfolding lineOf
+put-line {old} {new} {at} {end} l text e p =
+    subst (Put old new at end) (ap (λ (k : Line). take (k .length) (k .bytes)) e ∙ padded-front 80 text) p
 
 -- a refusal's line has room
-pub refused-room : (l : Line) (number : ℕ) → lineBytes l ≡ exactly (refusedLine number) → number ≤ 18 → (l .length ≤ 80) × (0 + l .length ≤ room)
+pub refused-room : (l : Line) (number : ℕ) → l ≡ lineOf (refusedLine number) → number ≤ 18 → (l .length ≤ 80) × (0 + l .length ≤ room)
 refused-room l number e h =
     let same = line-length l (refusedLine number) e in
     let short = refused-short number (omega arith) .within in

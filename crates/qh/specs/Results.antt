@@ -21,6 +21,6 @@ estimateOut r = record { refusal = r .refusal; value = r .estimate }
 abbrev pub foundOut : QhFound → Reply
 foundOut r = record { refusal = r .refusal; value = r .at }
 
--- the struct of an answer: accepted is 1 or 0
-abbrev pub verdictOf : Answer → QhVerdict
-verdictOf a = record { refusal = a .refusal; accepted = cond (a .accepted) 1 0; sort = a .sort; start = a .start; end = a .end }
+-- the struct of a reply: accepted is 1 or 0
+abbrev pub verdictStruct : Answer → QhVerdict
+verdictStruct a = record { refusal = a .refusal; accepted = cond (a .accepted) 1 0; sort = a .sort; start = a .start; end = a .end }

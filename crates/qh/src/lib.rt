@@ -18,7 +18,7 @@ ghost use Rattle.verdict.specs.Reply.{sortNumber};
 ghost use Rattle.verdict.specs.Checking.{checkReply};
 ghost use Rattle.estimate.specs.Asking.{estimateReply};
 ghost use Rattle.exam.specs.Sheet.{sheet, filled};
-ghost use Rattle.qh.specs.Results.{codedOut, builtOut, estimateOut, foundOut, verdictOf};
+ghost use Rattle.qh.specs.Results.{codedOut, builtOut, estimateOut, foundOut, verdictStruct};
 
 #[repr(C)]
 pub struct QhCoded {
@@ -141,7 +141,7 @@ fn number_of(sort: Sort) -> u32
 // Whether a histogram is accepted for a list, and else what fails first; refused with 1 to 3 and 7 to 13.
 #[no_mangle]
 pub extern "C" fn qh_check(freqs: &[u32], words: &[u32]) -> QhVerdict
-    ensures { λ r. ⌜ r ≡ verdictOf (checkReply (now (freqs .entry)) (now (words .entry))) ⌝ }
+    ensures { λ r. ⌜ r ≡ verdictStruct (checkReply (now (freqs .entry)) (now (words .entry))) ⌝ }
 {
     match verify::check(freqs, words) {
         Verdict::Refused(refusal) => QhVerdict {

@@ -25,11 +25,11 @@ use Rattle.fit.specs.Accepted.{checkFault, qualityOf, bucketletGood, totalGood,
 use Rattle.verdict.specs.declared.Sort.the-variants.{Bucket as OfBucket}
 use Rattle.verdict.specs.declared.Verdict.{Verdict}
 use Rattle.verdict.specs.declared.Verdict.the-variants.{Refused, Accepted}
-use Rattle.verdict.specs.Reply.{verdictReply}
+use Rattle.verdict.specs.Reply.{verdictReply, verdictOf}
 use Rattle.verdict.specs.Failing.{orNext, firstFailing}
-use Rattle.verdict.specs.Checking.{bucketletAnswer, totalVerdict, bucketVerdict, checkVerdict}
+use Rattle.verdict.specs.Checking.{bucketletAnswer, totalVerdict, bucketVerdict, checkVerdict, checkReply}
 use Rattle.verdict.specs.Claims.{Reached}
-use Rattle.verdict.proofs.FirstLaws.{reply-accepted, next-accepted, next-other, accepted-left, accepted-right, next-unrefused, all-accepted, accepted-all, first-at, first-unrefused}
+use Rattle.verdict.proofs.FirstLaws.{Unrefused, unrefused-number, unrefused-case, refused-case, reply-accepted, next-accepted, next-other, accepted-left, accepted-right, next-unrefused, all-accepted, accepted-all, first-at, first-unrefused}
 use Rattle.verdict.proofs.RangeLaws.{good-accepted, accepted-good, test-unrefused, empty-verdict, verdict-fits, fits-verdict, bucketlet-unrefused}
 
 module _ (q : Quality) (fs : List ℕ) where
@@ -51,7 +51,7 @@ module _ (q : Quality) (fs : List ℕ) where
       (λ (g : bucketletFits q fs a w s ≡ true). fits-verdict q fs a w s g)
       (either (eqb w 0) (bucketletFits q fs a w s) t)
 
-  total-unrefused : (start end code : ℕ) → verdictReply (totalVerdict q fs start end code) .refusal ≡ 0
+  total-unrefused : (start end code : ℕ) → Unrefused (totalVerdict q fs start end code)
   unfolding totalVerdict
   total-unrefused start end code = test-unrefused (totalGood q (partSum start (end - start) fs) code) (record { start = start; end = end; sort = OfBucket })
 
@@ -89,7 +89,7 @@ module _ (q : Quality) (fs : List ℕ) where
         let g = both-left (each 8 (bucketletGood q fs r)) _ t in
         total-decides (λ m h. good-bucketlet r m (each-at 8 (bucketletGood q fs r) g m h)) ∙ good-accepted _ _ (both-right (each 8 (bucketletGood q fs r)) _ t)
 
-    bucket-unrefused : verdictReply (bucketVerdict q fs ws b) .refusal ≡ 0
+    bucket-unrefused : Unrefused (bucketVerdict q fs ws b)
     unfolding bucketVerdict
     bucket-unrefused =
         let r = bucketAt ws b in
@@ -132,14 +132,34 @@ module _ (fs ws : List ℕ) where
       checked-verdict (r .no-fault)
       ∙ first-at (bucketVerdict q fs ws) (buckets ws) 0 b (omega arith) (omega (arith, r .is-bucket)) (λ m _ l. good-bucket q fs ws m (r .buckets-before m l)) n
 
+  -- what is answered where there is no fault
+  abbrev checked : Verdict
+  checked = firstFailing (bucketVerdict (qualityOf ws) fs ws) (buckets ws) 0
+
+  unrefused : Unrefused checked
+  unrefused = first-unrefused (bucketVerdict (qualityOf ws) fs ws) (bucket-unrefused (qualityOf ws) fs ws) (buckets ws) 0
+
   pub verdict-refusal : verdictReply (checkVerdict fs ws) .refusal ≡ checkFault fs ws
   verdict-refusal = ⊎-elim none some (tested (eqb (checkFault fs ws) 0))
     where
       none : eqb (checkFault fs ws) 0 ≡ true → verdictReply (checkVerdict fs ws) .refusal ≡ checkFault fs ws
       none t =
           let e = eqb-true (checkFault fs ws) 0 t in
-          let q = qualityOf ws in
-          ap (λ (v : Verdict). verdictReply v .refusal) (checked-verdict e) ∙ first-unrefused (bucketVerdict q fs ws) (bucket-unrefused q fs ws) (buckets ws) 0 ∙ sym e
+          ap (λ (v : Verdict). verdictReply v .refusal) (checked-verdict e) ∙ unrefused-number checked unrefused ∙ sym e
 
       some : eqb (checkFault fs ws) 0 ≡ false → verdictReply (checkVerdict fs ws) .refusal ≡ checkFault fs ws
       some t = ap (λ (v : Verdict). verdictReply v .refusal) (refused-verdict (eqb-false (checkFault fs ws) 0 t))
+
+  -- the answer is the case that its reply is
+  pub verdict-case : checkVerdict fs ws ≡ verdictOf (checkReply fs ws)
+  verdict-case = ⊎-elim none some (tested (eqb (checkFault fs ws) 0))
+    where
+      none : eqb (checkFault fs ws) 0 ≡ true → checkVerdict fs ws ≡ verdictOf (checkReply fs ws)
+      none t =
+          let e = checked-verdict (eqb-true (checkFault fs ws) 0 t) in
+          e ∙ unrefused-case checked unrefused ∙ ap (λ (v : Verdict). verdictOf (verdictReply v)) (sym e)
+
+      some : eqb (checkFault fs ws) 0 ≡ false → checkVerdict fs ws ≡ verdictOf (checkReply fs ws)
+      some t =
+          let n = eqb-false (checkFault fs ws) 0 t in
+          refused-verdict n ∙ refused-case (checkFault fs ws) n ∙ ap (λ (v : Verdict). verdictOf (verdictReply v)) (sym (refused-verdict n))

@@ -1,14 +1,18 @@
 -- Laws of what fails first (specs/Failing.antt): nothing fails exactly if no answer on the way is against it, and else the answer is the first
 -- that is. By induction on how many are left. Assumes nothing.
 use mathlib.Core.Path.{_≡_, refl, sym, ap, _∙_}
-use mathlib.Core.Bool.{true}
+use mathlib.Core.Bool.{true, false}
 use mathlib.Core.Logic.{⊎-elim}
 use Prim.Native.Nat.{ℕ, zero, suc, _+_, _≤_, _<_}
 use native.Mathlib.Nat.{eq-or-lt-of-le}
 use native.Mathlib.Omega.{arith}
+use borrow.Author.Tests.{ne-eqb}
+use lib.Dec.{eqb}
+use Rattle.verdict.specs.declared.Sort.{Sort}
+use Rattle.verdict.specs.declared.Sort.the-variants.{Bucketlet, Part, Bucket}
 use Rattle.verdict.specs.declared.Verdict.{Verdict}
 use Rattle.verdict.specs.declared.Verdict.the-variants.{Refused, Accepted, Fails}
-use Rattle.verdict.specs.Reply.{verdictReply}
+use Rattle.verdict.specs.Reply.{sortNumber, verdictReply, sortOfNumber, verdictOf}
 use Rattle.verdict.specs.Failing.{orNext, firstFailing}
 
 -- an answer is the accepted one exactly if its reply says so
@@ -37,11 +41,35 @@ accepted-left (Fails f) next e = e
 pub accepted-right : (v next : Verdict) → orNext v next ≡ Accepted → next ≡ Accepted
 accepted-right v next e = sym (next-accepted v next (accepted-left v next e)) ∙ e
 
--- an answer that refuses nothing
-pub next-unrefused : (v next : Verdict) → verdictReply v .refusal ≡ 0 → verdictReply next .refusal ≡ 0 → verdictReply (orNext v next) .refusal ≡ 0
-next-unrefused (Refused n) next e f = e
-next-unrefused Accepted next e f = f
-next-unrefused (Fails g) next e f = e
+-- an answer that is no refusal
+abbrev pub Unrefused : Verdict → Type 0
+Unrefused (Refused n) = ⊥
+Unrefused Accepted = Unit
+Unrefused (Fails f) = Unit
+
+pub unrefused-number : (v : Verdict) → Unrefused v → verdictReply v .refusal ≡ 0
+unrefused-number (Refused n) u = absurd u
+unrefused-number Accepted u = refl
+unrefused-number (Fails f) u = refl
+
+-- it is the case of its reply, and so is a refusal with a number
+sort-again : (s : Sort) → s ≡ sortOfNumber (sortNumber s)
+sort-again Bucketlet = refl
+sort-again Part = refl
+sort-again Bucket = refl
+
+pub unrefused-case : (v : Verdict) → Unrefused v → v ≡ verdictOf (verdictReply v)
+unrefused-case (Refused n) u = absurd u
+unrefused-case Accepted u = refl
+unrefused-case (Fails f) u = ap (λ (s : Sort). Fails (record { start = f .start; end = f .end; sort = s })) (sort-again (f .sort))
+
+pub refused-case : (n : ℕ) → (n ≡ 0 → ⊥) → Refused n ≡ verdictOf (verdictReply (Refused n))
+refused-case n z = let t : eqb n 0 ≡ false = ne-eqb n 0 z in rw t
+
+pub next-unrefused : (v next : Verdict) → Unrefused v → Unrefused next → Unrefused (orNext v next)
+next-unrefused (Refused n) next u w = u
+next-unrefused Accepted next u w = w
+next-unrefused (Fails f) next u w = u
 
 module _ (answer : ℕ → Verdict) where
   pub all-accepted : (n i : ℕ) → ((k : ℕ) → i ≤ k → k < i + n → answer k ≡ Accepted) → firstFailing answer n i ≡ Accepted
@@ -70,7 +98,7 @@ module _ (answer : ℕ → Verdict) where
       next-accepted (answer i) _ (before i (omega arith) d) ∙ first-at n (suc i) k d (omega arith) (λ m h j. before m (omega arith) j) against)
       (eq-or-lt-of-le g)
 
-  pub first-unrefused : ((k : ℕ) → verdictReply (answer k) .refusal ≡ 0) → (n i : ℕ) → verdictReply (firstFailing answer n i) .refusal ≡ 0
+  pub first-unrefused : ((k : ℕ) → Unrefused (answer k)) → (n i : ℕ) → Unrefused (firstFailing answer n i)
   unfolding firstFailing
-  first-unrefused h zero i = refl
+  first-unrefused h zero i = tt
   first-unrefused h (suc n) i = next-unrefused (answer i) (firstFailing answer n (suc i)) (h i) (first-unrefused h n (suc i))

@@ -20,7 +20,7 @@ use Rattle.verdict.specs.declared.Verdict.the-variants.{Accepted, Fails}
 use Rattle.verdict.specs.Reply.{verdictReply}
 use Rattle.verdict.specs.Failing.{countGood, rangeGood, sortOf, rangeVerdict, startVerdict, bucketletVerdict}
 use Rattle.verdict.specs.Claims.{FirstRange}
-use Rattle.verdict.proofs.FirstLaws.{all-accepted, accepted-all, first-at, first-unrefused}
+use Rattle.verdict.proofs.FirstLaws.{Unrefused, all-accepted, accepted-all, first-at, first-unrefused}
 
 -- accepted if a test holds, and else a failure
 module _ (t : Bool) (f : Failing) where
@@ -30,9 +30,9 @@ module _ (t : Bool) (f : Failing) where
   pub bad-fails : t ≡ false → cond t Accepted (Fails f) ≡ Fails f
   bad-fails e = ap (λ (u : Bool). cond u Accepted (Fails f)) e
 
-pub test-unrefused : (t : Bool) (f : Failing) → verdictReply (cond t Accepted (Fails f)) .refusal ≡ 0
-test-unrefused true f = refl
-test-unrefused false f = refl
+pub test-unrefused : (t : Bool) (f : Failing) → Unrefused (cond t Accepted (Fails f))
+test-unrefused true f = tt
+test-unrefused false f = tt
 
 -- no failure is accepted
 pub not-accepted : {f : Failing} → Fails f ≡ Accepted → ⊥
@@ -124,10 +124,10 @@ module _ (q : Quality) (fs : List ℕ) (a w s : ℕ) where
           (λ e. not-accepted (sym (bad-fails _ _ (r .fails)) ∙ e))
           ∙ bad-fails _ _ (r .fails)
 
-  range-unrefused : (i j : ℕ) → verdictReply (rangeVerdict q fs a w s i j) .refusal ≡ 0
+  range-unrefused : (i j : ℕ) → Unrefused (rangeVerdict q fs a w s i j)
   unfolding rangeVerdict
   range-unrefused i j = test-unrefused (rangeGood q fs a w s i j) (record { start = a + i; end = a + j; sort = sortOf (j - i) w })
 
-  pub bucketlet-unrefused : verdictReply (bucketletVerdict q fs a w s) .refusal ≡ 0
+  pub bucketlet-unrefused : Unrefused (bucketletVerdict q fs a w s)
   unfolding bucketletVerdict startVerdict
   bucketlet-unrefused = first-unrefused (startVerdict q fs a w s) (λ i. first-unrefused (rangeVerdict q fs a w s i) (range-unrefused i) (w - i) (suc i)) w 0

@@ -1,7 +1,9 @@
--- The number and the values of each case of the checker's answer (document 01, "Asking" and "When a call is turned away").
+-- The number and the values of each case of the checker's answer (document 01, "Asking" and "When a call is turned away"), and the case that
+-- such a reply is.
 -- Assumes nothing.
-use mathlib.Core.Bool.{Bool, true, false}
+use mathlib.Core.Bool.{Bool, true, false, cond}
 use Prim.Native.Nat.{ℕ}
+use lib.Dec.{eqb}
 use Rattle.verdict.specs.declared.Sort.{Sort}
 use Rattle.verdict.specs.declared.Sort.the-variants.{Bucketlet, Part, Bucket}
 use Rattle.verdict.specs.declared.Verdict.{Verdict}
@@ -33,3 +35,12 @@ abbrev pub verdictReply : Verdict → Answer
 verdictReply (Refused n) = refusedAnswer n
 verdictReply Accepted = acceptedAnswer
 verdictReply (Fails f) = failedAnswer (sortNumber (f .sort)) (f .start) (f .end)
+
+abbrev pub sortOfNumber : ℕ → Sort
+sortOfNumber n = cond (eqb n 1) Bucketlet (cond (eqb n 2) Part Bucket)
+
+abbrev pub verdictOf : Answer → Verdict
+verdictOf a =
+    cond (eqb (a .refusal) 0)
+    (cond (a .accepted) Accepted (Fails (record { start = a .start; end = a .end; sort = sortOfNumber (a .sort) })))
+    (Refused (a .refusal))

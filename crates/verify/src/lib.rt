@@ -8,7 +8,7 @@ use fit::Quality;
 use verdict::Verdict;
 ghost use mathlib.Core.Path.{_≡_};
 ghost use Rattle.layout.specs.Words.{buckets};
-ghost use Rattle.verdict.specs.Reply.{verdictReply};
+ghost use Rattle.verdict.specs.Reply.{verdictReply, verdictOf};
 ghost use Rattle.verdict.specs.Failing.{firstFailing};
 ghost use Rattle.verdict.specs.Checking.{bucketVerdict, checkReply};
 ghost use Rattle.verify.specs.Private.Searching.{Checkable};
@@ -31,6 +31,7 @@ fn buckets_verdict(freqs: &[u32], words: &[u32], q: Quality) -> Verdict
 // Whether the histogram is accepted for the list, what fails first, or the number of the refusal.
 pub fn check(freqs: &[u32], words: &[u32]) -> Verdict
     ensures { λ r. ⌜ verdictReply r ≡ checkReply (now (freqs .entry)) (now (words .entry)) ⌝ }
+    ensures { λ r. ⌜ r ≡ verdictOf (checkReply (now (freqs .entry)) (now (words .entry))) ⌝ }
 {
     let fault = matching::check_fault(freqs, words);
     if fault != 0 {

@@ -4,9 +4,11 @@ use mathlib.Core.Path.{sym, ap, _∙_}
 use native.Mathlib.Omega.{arith}
 use borrow.Author.Needs.{needs}
 use Rattle.laws.specs.Reply.{answered, refused}
+use Rattle.laws.proofs.ReplyLaws.{answered-case, refused-case}
 use Rattle.estimate.specs.Fraction.{rounded}
 use Rattle.estimate.specs.Asking.{estimate}
 use Rattle.estimate.proofs.AskingLaws.{asked-readable, reply-refused, reply-answered}
+use Rattle.asking.specs.declared.Asked.the-variants.{Estimate, Refused}
 use Rattle.asking.proofs.estimate.Statement.{statement}
 use Rattle.asking.proofs.estimate.Tie as tie
 
@@ -17,7 +19,7 @@ returns : tie.Need-returns
 returns c =
     let a = c .before .before .before .args in
     let f = c .before .ask-fault .ensures in
-    ap refused f ∙ sym (reply-refused (a .words .now) (a .x) (a .y) (λ e. omega arith))
+    refused-case Estimate Refused _ _ (λ z. omega arith) (ap refused f ∙ sym (reply-refused (a .words .now) (a .x) (a .y) (λ e. omega arith)))
 
 exact-of-requires : tie.Need-exact-of-requires
 exact-of-requires c κs =
@@ -31,8 +33,9 @@ returns-2 : tie.Need-returns-2
 unfolding estimate
 returns-2 c =
     let a = c .before .before .before .before .before .args in
-    ap answered (c .rounded-of .ensures ∙ ap rounded (c .before .exact-of .ensures .0))
-    ∙ sym (reply-answered (a .words .now) (a .x) (a .y) (omega (arith, c .before .before .before .ask-fault .ensures)))
+    answered-case Estimate Refused _ _
+    (ap answered (c .rounded-of .ensures ∙ ap rounded (c .before .exact-of .ensures .0))
+    ∙ sym (reply-answered (a .words .now) (a .x) (a .y) (omega (arith, c .before .before .before .ask-fault .ensures))))
 
 pub estimate-spec : {M : Type 1} → statement M
 estimate-spec =

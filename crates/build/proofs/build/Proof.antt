@@ -4,9 +4,11 @@ use mathlib.Core.Path.{_≡_, _∙_}
 use native.Mathlib.Omega.{arith}
 use borrow.Author.Needs.{needs}
 use Rattle.laws.specs.Refusal.{refusal}
+use Rattle.laws.proofs.ReplyLaws.{answered-case, refused-case}
 use Rattle.histogram.specs.Building.{inputs}
 use Rattle.histogram.proofs.SoundLaws.{sound-of}
 use Rattle.histogram.proofs.BuildingLaws.{refused-by, input-fault, short-fault, answered-by}
+use Rattle.build.specs.declared.Built.the-variants.{Words, Refused}
 use Rattle.build.proofs.build.Statement.{statement}
 use Rattle.build.proofs.build.Tie as tie
 
@@ -17,7 +19,9 @@ returns : tie.Need-returns
 returns c =
     let a = c .before .before .before .before .args in
     let e = c .before .input-fault .ensures in
-    refused-by (a .freqs .now) (a .theta) (a .qn) (a .qd) (a .out .now) _ (e ∙ input-fault (a .freqs .now) (a .theta) (a .qn) (a .qd) (a .out .now) (λ z. omega arith)) (λ z. omega arith)
+    let r = refused-by (a .freqs .now) (a .theta) (a .qn) (a .qd) (a .out .now) _ (e ∙ input-fault (a .freqs .now) (a .theta) (a .qn) (a .qd) (a .out .now) (λ z. omega arith)) (λ z. omega arith) in
+    let p = refused-case Words Refused _ _ (λ z. omega arith) (r .0) in
+    (p .0, (p .1, r .1))
 
 -- the input is sound
 passed : (c : tie.Else1) → let a = c .before .before .before .before .args in refusal (inputs (a .freqs .now) (a .theta) (a .qn) (a .qd)) ≡ 0
@@ -33,7 +37,9 @@ returns-2 : tie.Need-returns-2
 returns-2 c =
     let a = c .before .before .before .before .before .before .before .before .args in
     let h = c .before .before .put-histogram .ensures in
-    refused-by (a .freqs .now) (a .theta) (a .qn) (a .qd) (a .out .now) 6 (short-fault (a .freqs .now) (a .theta) (a .qn) (a .qd) (a .out .now) (passed (c .before .before .before .before)) (omega (arith, h .count))) (λ z. omega arith)
+    let r = refused-by (a .freqs .now) (a .theta) (a .qn) (a .qd) (a .out .now) 6 (short-fault (a .freqs .now) (a .theta) (a .qn) (a .qd) (a .out .now) (passed (c .before .before .before .before)) (omega (arith, h .count))) (λ z. omega arith) in
+    let p = refused-case Words Refused 6 _ (λ z. omega arith) (r .0) in
+    (p .0, (p .1, r .1))
 
 slice-aggregate-copy : tie.Need-slice-aggregate-copy
 slice-aggregate-copy c = search needs
@@ -49,7 +55,8 @@ returns-3 c =
     let a = c .before .before .before .before .before .before .before .before .before .before .before .before .before .args in
     let h = c .before .before .before .before .before .before .before .put-histogram .ensures in
     let r = answered-by (a .freqs .now) (a .theta) (a .qn) (a .qd) (a .out .now) (passed (c .before .before .before .before .before .before .before .before .before)) _ _ (h .count) (h .front) (omega arith) in
-    (r .0, c .before .before .copy .ensures ∙ r .1)
+    let p = answered-case Words Refused _ _ (r .0) in
+    (p .0, (p .1, c .before .before .copy .ensures ∙ r .1))
 
 pub build-spec : {M : Type 1} → statement M
 build-spec =

@@ -4,6 +4,7 @@ use native.Mathlib.Omega.{arith}
 use borrow.Author.Needs.{needs}
 use Rattle.coding.specs.Base.{base, countable}
 use Rattle.coding.specs.Class.{classOf}
+use Rattle.counts.specs.declared.Coded.the-variants.{Code, Refused}
 use Rattle.counts.specs.Reply.{classReply}
 use Rattle.counts.proofs.CountLaws.{replied, turned-away, in-range, out-of-range}
 use Rattle.counts.proofs.class_of.Statement.{statement}
@@ -11,11 +12,11 @@ use Rattle.counts.proofs.class_of.Tie as tie
 
 returns : tie.Need-returns
 unfolding classReply
-returns c = let v = c .before .args .count in turned-away (countable v) (classOf base v) 16 (out-of-range v (λ h l. omega arith))
+returns c = let v = c .before .args .count in turned-away Code (λ _. Refused) (countable v) (classOf base v) 16 (out-of-range v (λ h l. omega arith)) (λ z. omega arith)
 
 returns-2 : tie.Need-returns-2
 unfolding classReply
-returns-2 c = let v = c .before .before .args .count in turned-away (countable v) (classOf base v) 16 (out-of-range v (λ h l. omega arith))
+returns-2 c = let v = c .before .before .args .count in turned-away Code (λ _. Refused) (countable v) (classOf base v) 16 (out-of-range v (λ h l. omega arith)) (λ z. omega arith)
 
 class-search-requires : tie.Need-class-search-requires
 class-search-requires c κs = search needs
@@ -24,7 +25,7 @@ returns-3 : tie.Need-returns-3
 unfolding classReply
 returns-3 c =
     let v = c .before .before .before .args .count in
-    replied (countable v) _ (classOf base v) 16 (in-range v (omega arith) (omega arith)) (c .class-search .ensures)
+    replied Code (λ _. Refused) (countable v) _ (classOf base v) 16 (in-range v (omega arith) (omega arith)) (c .class-search .ensures)
 
 pub class-of-spec : {M : Type 1} → statement M
 class-of-spec = tie.close (tie.spec returns returns-2 class-search-requires returns-3)

@@ -6,6 +6,7 @@ use borrow.Author.Needs.{needs}
 use Rattle.coding.specs.Base.{countable}
 use Rattle.coding.specs.Total.{totalCode}
 use Rattle.coding.proofs.TotalLaws.{shift-small}
+use Rattle.counts.specs.declared.Coded.the-variants.{Code, Refused}
 use Rattle.counts.specs.Reply.{totalReply}
 use Rattle.counts.proofs.CountLaws.{replied, turned-away, in-range, out-of-range, code-packed, bits-shifted}
 use Rattle.counts.proofs.code_of_total.Statement.{statement}
@@ -13,11 +14,11 @@ use Rattle.counts.proofs.code_of_total.Tie as tie
 
 returns : tie.Need-returns
 unfolding totalReply
-returns c = let t = c .before .args .total in turned-away (countable t) (totalCode t) 16 (out-of-range t (λ h l. omega arith))
+returns c = let t = c .before .args .total in turned-away Code (λ _. Refused) (countable t) (totalCode t) 16 (out-of-range t (λ h l. omega arith)) (λ z. omega arith)
 
 returns-2 : tie.Need-returns-2
 unfolding totalReply
-returns-2 c = let t = c .before .before .args .total in turned-away (countable t) (totalCode t) 16 (out-of-range t (λ h l. omega arith))
+returns-2 c = let t = c .before .before .args .total in turned-away Code (λ _. Refused) (countable t) (totalCode t) 16 (out-of-range t (λ h l. omega arith)) (λ z. omega arith)
 
 shift-of-requires : tie.Need-shift-of-requires
 shift-of-requires c κs = search needs
@@ -31,7 +32,7 @@ returns-3 c =
     let t = c .before .before .before .args .total in
     let s = c .shift-of .result in
     let e = c .shift-of .ensures in
-    replied (countable t) _ (totalCode t) 16 (in-range t (omega arith) (omega arith))
+    replied Code (λ _. Refused) (countable t) _ (totalCode t) 16 (in-range t (omega arith) (omega arith))
     (code-packed t s (t / 2 ^ s * 32 % 2 ^ 32) (omega arith) e (omega (arith, bits-shifted t s e)))
 
 pub code-of-total-spec : {M : Type 1} → statement M

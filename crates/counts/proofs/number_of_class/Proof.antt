@@ -6,6 +6,7 @@ use borrow.Author.Needs.{needs}
 use Rattle.coding.specs.Base.{base, usedClass}
 use Rattle.coding.specs.Class.{classNumber}
 use Rattle.coding.proofs.BaseLaws.{says-used}
+use Rattle.counts.specs.declared.Meaning.the-variants.{Number, Refused}
 use Rattle.counts.specs.Reply.{classMeaning}
 use Rattle.counts.proofs.CountLaws.{replied, turned-away, not-used, number-in}
 use Rattle.counts.proofs.number_of_class.Statement.{statement}
@@ -13,17 +14,17 @@ use Rattle.counts.proofs.number_of_class.Tie as tie
 
 returns : tie.Need-returns
 unfolding classMeaning
-returns c = let k = c .before .args .class in turned-away (usedClass k) (classNumber base k) 17 (not-used k (λ h l n. omega arith))
+returns c = let k = c .before .args .class in turned-away Number (λ _. Refused) (usedClass k) (classNumber base k) 17 (not-used k (λ h l n. omega arith)) (λ z. omega arith)
 
 returns-2 : tie.Need-returns-2
 unfolding classMeaning
 returns-2 c =
     let k = c .before .before .args .class in
-    turned-away (usedClass k) (classNumber base k) 17 (not-used k (λ h l n. n (omega arith)))
+    turned-away Number (λ _. Refused) (usedClass k) (classNumber base k) 17 (not-used k (λ h l n. n (omega arith))) (λ z. omega arith)
 
 returns-3 : tie.Need-returns-3
 unfolding classMeaning
-returns-3 c = let k = c .before .before .before .args .class in turned-away (usedClass k) (classNumber base k) 17 (not-used k (λ h l n. omega arith))
+returns-3 c = let k = c .before .before .before .args .class in turned-away Number (λ _. Refused) (usedClass k) (classNumber base k) 17 (not-used k (λ h l n. omega arith)) (λ z. omega arith)
 
 class-number-requires : tie.Need-class-number-requires
 class-number-requires c κs = search needs
@@ -33,7 +34,7 @@ unfolding classMeaning
 returns-4 c =
     let k = c .before .before .before .before .args .class in
     let t = says-used k (omega arith) (omega arith) (λ e. omega arith) in
-    replied (usedClass k) _ (classNumber base k) 17 t (c .class-number .ensures ∙ number-in k t)
+    replied Number (λ _. Refused) (usedClass k) _ (classNumber base k) 17 t (c .class-number .ensures ∙ number-in k t)
 
 pub number-of-class-spec : {M : Type 1} → statement M
 number-of-class-spec = tie.close (tie.spec returns returns-2 returns-3 class-number-requires returns-4)

@@ -8,6 +8,7 @@ use borrow.Author.Needs.{needs}
 use borrow.Author.Tests.{not-true, not-false}
 use lib.Bits.{and-mask}
 use Rattle.coding.specs.Total.{validCode, totalNumber}
+use Rattle.counts.specs.declared.Meaning.the-variants.{Number, Refused}
 use Rattle.counts.specs.Reply.{totalMeaning}
 use Rattle.counts.proofs.CountLaws.{replied, turned-away, number-packed}
 use Rattle.counts.proofs.number_of_total.Statement.{statement}
@@ -24,7 +25,7 @@ returns : tie.Need-returns
 unfolding totalMeaning
 returns c =
     let n = c .before .before .args .code in
-    turned-away (validCode n) (totalNumber n) 17 (tested (c .before) false (not-true _ (c .if1 .taken)))
+    turned-away Number (λ _. Refused) (validCode n) (totalNumber n) 17 (tested (c .before) false (not-true _ (c .if1 .taken))) (λ z. omega arith)
 
 shl-t6 : tie.Need-shl-t6
 shl-t6 c = omega (arith, and-mask (c .before .before .args .code) 5)
@@ -44,7 +45,7 @@ returns-2 : tie.Need-returns-2
 unfolding totalMeaning
 returns-2 c =
     let n = c .before .before .before .args .code in
-    replied (validCode n) _ (totalNumber n) 17 (valid c)
+    replied Number (λ _. Refused) (validCode n) _ (totalNumber n) 17 (valid c)
     (number-packed n (n / 32) _ _ (c .shift-middle .ensures) (omega arith) (omega (arith, and-mask n 5)) (valid c) .value)
 
 pub number-of-total-spec : {M : Type 1} → statement M

@@ -1,12 +1,12 @@
--- `finding::find` meets its contract: the five words from the place that is found lie within the list.
+-- `finding::find` meets its contract: the five words from the place that is found lie within the list, and the part begins there.
 -- Assumes nothing.
-use mathlib.Core.Path.{_≡_, sym, ap, _∙_}
+use mathlib.Core.Path.{_≡_, refl, sym, ap, _∙_}
 use mathlib.Core.List.{List}
 use Prim.Native.Nat.{ℕ, _+_, _-_, _≤_}
 use native.Mathlib.Omega.{arith}
 use borrow.Author.Needs.{needs}
 use lib.ListN.{length, take, drop}
-use Rattle.laws.specs.Reply.{answered}
+use Rattle.laws.specs.Reply.{Reply, answered}
 use Rattle.layout.specs.Finding.{findReply, found}
 use Rattle.layout.proofs.EntryLaws.{found-none, found-part, place-fault, place-no-fault, place-is, bucket-within}
 use Rattle.finding.specs.Place.{placeReply}
@@ -17,7 +17,7 @@ use Rattle.finding.proofs.find.Tie as tie
 placed : (c : tie.After-known-told)
     → let a = c .before .before .before .before .before .args in
     answered (c .before .at .given .0 .0) ≡ findReply (a .words .now) (a .entry)
-placed c = ap placeReply (sym (c .before .at .given .1)) ∙ c .before .before .before .find-place .ensures
+placed c = ap placeReply (sym (c .before .at .given .1)) ∙ c .before .before .before .find-place .ensures .0
 
 within : (c : tie.After-known-told) → c .before .at .given .0 .0 + 5 ≤ length (c .before .before .before .before .before .args .words .now)
 within c =
@@ -52,7 +52,8 @@ returns : tie.Need-returns
 returns c =
     let a = c .before .before .before .before .before .args in
     let told = c .before .enum-told .given in
-    sym (found-none (a .words .now) (a .entry) (place-fault (a .words .now) (a .entry) _ (ap placeReply (sym (told .1)) ∙ c .before .before .before .find-place .ensures)))
+    let reply = ap placeReply (sym (told .1)) ∙ c .before .before .before .find-place .ensures .0 in
+    (sym (found-none (a .words .now) (a .entry) (place-fault (a .words .now) (a .entry) _ reply)), (refl, omega (arith, ap (λ (r : Reply). r .value) reply)))
 
 add-end : tie.Need-add-end
 add-end c = omega (arith, within c)
@@ -73,7 +74,7 @@ returns-2 : tie.Need-returns-2
 returns-2 c =
     let a = c .before .before .before .before .before .before .args in
     let at = c .before .before .at .given .0 .0 in
-    five-from (a .words .now) (a .entry) (at + 5 - at) at (placed (c .before)) (omega arith)
+    (five-from (a .words .now) (a .entry) (at + 5 - at) at (placed (c .before)) (omega arith), (refl, omega (arith, ap (λ (r : Reply). r .value) (placed (c .before)))))
 
 pub find-spec : {M : Type 1} → statement M
 find-spec =

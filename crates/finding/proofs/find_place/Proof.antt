@@ -5,8 +5,10 @@ use Prim.Native.Nat.{_+_, _*_, _≤_}
 use native.Mathlib.Omega.{arith}
 use borrow.Author.Needs.{needs}
 use lib.ListN.{length}
+use Rattle.laws.proofs.ReplyLaws.{answered-case, refused-case}
 use Rattle.layout.specs.Finding.{findFault}
 use Rattle.layout.proofs.EntryLaws.{found-readable, found-below, place-refused, place-found, bucket-within}
+use Rattle.finding.specs.declared.Place.the-variants.{At, Refused}
 use Rattle.finding.proofs.find_place.Statement.{statement}
 use Rattle.finding.proofs.find_place.Tie as tie
 
@@ -25,7 +27,7 @@ returns : tie.Need-returns
 returns c =
     let a = c .before .before .before .args in
     let f = c .before .find-fault .ensures in
-    place-refused (a .words .now) (a .entry) _ (λ e. omega arith) (omega arith)
+    refused-case At Refused _ _ (λ z. omega arith) (place-refused (a .words .now) (a .entry) _ (λ e. omega arith) (omega arith))
 
 bucket-of-requires : tie.Need-bucket-of-requires
 bucket-of-requires c κs =
@@ -41,7 +43,7 @@ add-t7 c = omega (arith, within c)
 returns-2 : tie.Need-returns-2
 returns-2 c =
     let a = c .before .before .before .before .args in
-    place-found (a .words .now) (a .entry) _ (no-fault (c .before)) (omega (arith, c .bucket-of .ensures))
+    answered-case At Refused _ _ (place-found (a .words .now) (a .entry) _ (no-fault (c .before)) (omega (arith, c .bucket-of .ensures)))
 
 pub find-place-spec : {M : Type 1} → statement M
 find-place-spec =

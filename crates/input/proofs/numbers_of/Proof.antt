@@ -1,12 +1,12 @@
 -- `input::numbers_of` meets its contract: the numbers in hand and those of the bytes that are left are the numbers of all.
 -- Assumes nothing.
-use mathlib.Core.Path.{_≡_, refl, subst, subst⁻¹}
+use mathlib.Core.Path.{_≡_, subst, subst⁻¹}
 use Prim.Native.Nat.{ℕ, suc, _+_, _-_}
 use native.Mathlib.Omega.{arith}
 use borrow.Author.Needs.{needs}
 use lib.ListN.{length, set}
 use Rattle.input.specs.Private.Lines.{LineAt}
-use Rattle.input.proofs.ReadLaws.{Begun, begun-none, begun-more, broken-line, too-many, too-few, all-read, refused-reply}
+use Rattle.input.proofs.ReadLaws.{Begun, begun-none, begun-more, broken-line, too-many, too-few, all-read, refused-numbers}
 use Rattle.input.proofs.numbers_of.Statement.{statement}
 use Rattle.input.proofs.numbers_of.Tie as tie
 
@@ -17,7 +17,7 @@ abbrev μ-loop : tie.MeasureT-loop
 μ-loop input values₀ n₀ start₀ values n start = length input - start
 
 loop-holds : tie.Need-loop-holds Inv-loop μ-loop
-loop-holds c = begun-none (c .before .args .input .now) _ refl
+loop-holds c = begun-none (c .before .args .input .now)
 
 line-at-requires : tie.Need-line-at-requires Inv-loop μ-loop
 line-at-requires c κs = search needs
@@ -36,7 +36,7 @@ returns c =
     let a = c .before .before .before .before .before .before .before .args in
     let l = c .before .before .before .before .before .loop in
     let broken = subst (LineAt (a .input .now) (l .start)) (c .before .enum-told .given .1) (c .before .before .before .line-at .ensures) in
-    refused-reply (a .input .now) (c .refused .result) (c .refused .ensures .0) (c .refused .ensures .1) (broken-line (a .input .now) (l .values) (l .n) (l .start) (l .inv) broken)
+    refused-numbers (a .input .now) (c .refused .result) (c .refused .ensures) (broken-line (a .input .now) (l .values) (l .n) (l .start) (l .inv) broken)
 
 refused-requires-2 : tie.Need-refused-requires-2 Inv-loop μ-loop
 refused-requires-2 c κs = search needs
@@ -47,7 +47,7 @@ returns-2 c =
     let l = c .before .before .before .before .before .before .before .loop in
     let v = c .before .before .before .value .given .0 in
     let stepped = subst (LineAt (a .input .now) (l .start)) (c .before .before .before .value .given .1) (c .before .before .before .before .before .line-at .ensures) in
-    refused-reply (a .input .now) (c .refused2 .result) (c .refused2 .ensures .0) (c .refused2 .ensures .1)
+    refused-numbers (a .input .now) (c .refused2 .result) (c .refused2 .ensures)
     (too-many (a .input .now) (l .values) (l .n) (l .start) (l .inv) (v .0) (v .1 .0) (omega arith) stepped)
 
 mul-values : tie.Need-mul-values Inv-loop μ-loop
@@ -83,7 +83,7 @@ returns-3 : tie.Need-returns-3 Inv-loop μ-loop
 returns-3 c =
     let a = c .before .before .before .before .before .args in
     let l = c .before .before .before .loop in
-    refused-reply (a .input .now) (c .refused3 .result) (c .refused3 .ensures .0) (c .refused3 .ensures .1)
+    refused-numbers (a .input .now) (c .refused3 .result) (c .refused3 .ensures)
     (too-few (a .input .now) (l .values) (l .n) (l .start) (l .inv) (omega arith) (omega arith))
 
 returns-4 : tie.Need-returns-4 Inv-loop μ-loop

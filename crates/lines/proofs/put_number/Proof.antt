@@ -6,7 +6,7 @@ use borrow.Author.Needs.{needs}
 use lib.Seq.{sets}
 use Rattle.exam.specs.Text.{digits, places, decimal}
 use Rattle.exam.proofs.TextLaws.{decimal-length, places-few}
-use Rattle.lines.specs.Line.{maxDigits}
+use Rattle.lines.specs.Private.Digits.{maxDigits}
 use Rattle.lines.proofs.PutLaws.{digit-put}
 use Rattle.lines.proofs.put_number.Statement.{statement}
 use Rattle.lines.proofs.put_number.Tie as tie

@@ -44,7 +44,7 @@ put-histogram-requires c κs =
     let s = c .before .before .before .before .before .before .before .before .before in
     let b = c .before .before .before .before .before .before .build in
     let e = ap builtReply (sym (c .before .before .before .built .given .1)) ∙ b .ensures .0 in
-    subst⁻¹ Roomy (words-are (s .args .freqs .now) (s .args .theta) (s .args .qn) (s .args .qd) (s .pre) _ e _ _ refl (b .ensures .1))
+    subst⁻¹ Roomy (words-are (s .args .freqs .now) (s .args .theta) (s .args .qn) (s .args .qd) (s .pre) _ e _ _ refl (b .ensures .1 .1))
     (words-room (s .args .freqs .now) (s .args .theta) (s .args .qn) (s .args .qd) (s .pre) _ e)
 
 enum-known-built-2 : tie.Need-enum-known-built-2
@@ -67,7 +67,7 @@ returns c =
     let b = c .before .before .before .before .before .before .before .build in
     let e = ap builtReply (sym (c .before .before .before .before .built .given .1)) ∙ b .ensures .0 in
     subst (Put (s .args .out .now) _ 0 (c .put-histogram .result))
-    (ap histogramSheet (words-are (s .args .freqs .now) (s .args .theta) (s .args .qn) (s .args .qd) (s .pre) _ e _ _ refl (b .ensures .1))
+    (ap histogramSheet (words-are (s .args .freqs .now) (s .args .theta) (s .args .qn) (s .args .qd) (s .pre) _ e _ _ refl (b .ensures .1 .1))
     ∙ built-sheet (s .args .freqs .now) (s .args .theta) (s .args .qn) (s .args .qd) (s .pre) _ e)
     (c .put-histogram .ensures)
 

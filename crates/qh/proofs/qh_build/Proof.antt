@@ -21,7 +21,7 @@ same-length c = search needs
 returns : tie.Need-returns
 returns c =
     let b = c .before .before .before .before .before .build .ensures in
-    (ap builtReply (sym (c .before .words .given .1)) ∙ b .0, b .1)
+    (ap builtReply (sym (c .before .words .given .1)) ∙ b .0, b .1 .1)
 
 same-length-2 : tie.Need-same-length-2
 same-length-2 c = search needs
@@ -29,7 +29,7 @@ same-length-2 c = search needs
 returns-2 : tie.Need-returns-2
 returns-2 c =
     let b = c .before .before .before .before .before .build .ensures in
-    (ap builtReply (sym (c .before .refusal .given .1)) ∙ b .0, b .1)
+    (ap builtReply (sym (c .before .refusal .given .1)) ∙ b .0, b .1 .1)
 
 pub qh-build-spec : {M : Type 1} → statement M
 qh-build-spec =

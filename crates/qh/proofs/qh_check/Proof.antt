@@ -4,7 +4,7 @@ use mathlib.Core.Path.{sym, ap, _∙_}
 use borrow.Author.Needs.{needs}
 use Prim.Native.Nat.{ℕ}
 use Rattle.verdict.specs.Reply.{failedAnswer, verdictReply}
-use Rattle.qh.specs.Results.{verdictOf}
+use Rattle.qh.specs.Results.{verdictStruct}
 use Rattle.qh.proofs.qh_check.Statement.{statement}
 use Rattle.qh.proofs.qh_check.Tie as tie
 
@@ -24,18 +24,18 @@ number-of-requires : tie.Need-number-of-requires
 number-of-requires c κs = search needs
 
 returns : tie.Need-returns
-returns c = ap verdictOf (ap verdictReply (sym (c .before .refusal .given .1)) ∙ c .before .before .before .check .ensures)
+returns c = ap verdictStruct (ap verdictReply (sym (c .before .refusal .given .1)) ∙ c .before .before .before .check .ensures .0)
 
 returns-2 : tie.Need-returns-2
-returns-2 c = ap verdictOf (ap verdictReply (sym (c .enum-told .given .1)) ∙ c .before .before .check .ensures)
+returns-2 c = ap verdictStruct (ap verdictReply (sym (c .enum-told .given .1)) ∙ c .before .before .check .ensures .0)
 
 returns-3 : tie.Need-returns-3
 returns-3 c =
     let f = c .before .before .failing .given in
-    ap verdictOf
+    ap verdictStruct
     (ap (λ (n : ℕ). failedAnswer n (f .0 .0 .start) (f .0 .0 .end)) (c .number-of .ensures)
     ∙ ap verdictReply (sym (f .1))
-    ∙ c .before .before .before .before .check .ensures)
+    ∙ c .before .before .before .before .check .ensures .0)
 
 pub qh-check-spec : {M : Type 1} → statement M
 qh-check-spec =

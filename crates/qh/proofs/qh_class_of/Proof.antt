@@ -12,7 +12,7 @@ coded-requires : tie.Need-coded-requires
 coded-requires c κs = search needs
 
 returns : tie.Need-returns
-returns c = c .coded .ensures ∙ c .before .class-of .ensures
+returns c = c .coded .ensures ∙ c .before .class-of .ensures .0
 
 pub qh-class-of-spec : {M : Type 1} → statement M
 qh-class-of-spec = tie.close (tie.spec class-of-requires coded-requires returns)

@@ -12,7 +12,7 @@ coded-requires : tie.Need-coded-requires
 coded-requires c κs = search needs
 
 returns : tie.Need-returns
-returns c = c .coded .ensures ∙ c .before .code-of-total .ensures
+returns c = c .coded .ensures ∙ c .before .code-of-total .ensures .0
 
 pub qh-code-of-total-spec : {M : Type 1} → statement M
 qh-code-of-total-spec = tie.close (tie.spec code-of-total-requires coded-requires returns)

@@ -16,10 +16,10 @@ enum-known-refusal : tie.Need-enum-known-refusal
 enum-known-refusal c = search needs
 
 returns : tie.Need-returns
-returns c = ap askedReply (sym (c .before .count .given .1)) ∙ c .before .before .before .estimate .ensures
+returns c = ap askedReply (sym (c .before .count .given .1)) ∙ c .before .before .before .estimate .ensures .0
 
 returns-2 : tie.Need-returns-2
-returns-2 c = ap askedReply (sym (c .before .refusal .given .1)) ∙ c .before .before .before .estimate .ensures
+returns-2 c = ap askedReply (sym (c .before .refusal .given .1)) ∙ c .before .before .before .estimate .ensures .0
 
 pub qh-estimate-spec : {M : Type 1} → statement M
 qh-estimate-spec =

@@ -16,10 +16,10 @@ enum-known-refusal : tie.Need-enum-known-refusal
 enum-known-refusal c = search needs
 
 returns : tie.Need-returns
-returns c = ap placeReply (sym (c .before .at .given .1)) ∙ c .before .before .before .find-place .ensures
+returns c = ap placeReply (sym (c .before .at .given .1)) ∙ c .before .before .before .find-place .ensures .0
 
 returns-2 : tie.Need-returns-2
-returns-2 c = ap placeReply (sym (c .before .refusal .given .1)) ∙ c .before .before .before .find-place .ensures
+returns-2 c = ap placeReply (sym (c .before .refusal .given .1)) ∙ c .before .before .before .find-place .ensures .0
 
 pub qh-find-spec : {M : Type 1} → statement M
 qh-find-spec =

@@ -12,7 +12,7 @@ meant-requires : tie.Need-meant-requires
 meant-requires c κs = search needs
 
 returns : tie.Need-returns
-returns c = c .meant .ensures ∙ c .before .number-of-class .ensures
+returns c = c .meant .ensures ∙ c .before .number-of-class .ensures .0
 
 pub qh-number-of-class-spec : {M : Type 1} → statement M
 qh-number-of-class-spec = tie.close (tie.spec number-of-class-requires meant-requires returns)

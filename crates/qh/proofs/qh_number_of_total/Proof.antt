@@ -12,7 +12,7 @@ meant-requires : tie.Need-meant-requires
 meant-requires c κs = search needs
 
 returns : tie.Need-returns
-returns c = c .meant .ensures ∙ c .before .number-of-total .ensures
+returns c = c .meant .ensures ∙ c .before .number-of-total .ensures .0
 
 pub qh-number-of-total-spec : {M : Type 1} → statement M
 qh-number-of-total-spec = tie.close (tie.spec number-of-total-requires meant-requires returns)

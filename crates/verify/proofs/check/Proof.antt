@@ -1,20 +1,27 @@
 -- `verify::check` meets its contract: a fault is the refusal's number, and else what fails first is the answer.
 -- Assumes nothing.
 use mathlib.Core.Path.{_≡_, sym, ap, subst, _∙_}
+use mathlib.Core.List.{List}
+use Prim.Native.Nat.{ℕ}
 use native.Mathlib.Omega.{arith}
 use borrow.Author.Needs.{needs}
 use Rattle.layout.specs.Words.{buckets}
 use Rattle.fit.specs.declared.Quality.{Quality}
 use Rattle.fit.specs.Accepted.{checkFault}
 use Rattle.histogram.specs.Private.Sound.{Sound}
+use Rattle.verdict.specs.declared.Verdict.{Verdict}
 use Rattle.verdict.specs.declared.Verdict.the-variants.{Refused}
-use Rattle.verdict.specs.Reply.{verdictReply}
+use Rattle.verdict.specs.Reply.{verdictReply, verdictOf}
 use Rattle.verdict.specs.Failing.{firstFailing}
-use Rattle.verdict.specs.Checking.{bucketVerdict}
-use Rattle.verdict.proofs.CheckLaws.{refused-verdict, checked-verdict}
+use Rattle.verdict.specs.Checking.{bucketVerdict, checkVerdict, checkReply}
+use Rattle.verdict.proofs.CheckLaws.{refused-verdict, checked-verdict, verdict-case}
 use Rattle.verify.proofs.HistogramLaws.{sound}
 use Rattle.verify.proofs.check.Statement.{statement}
 use Rattle.verify.proofs.check.Tie as tie
+
+-- the answer's reply, and the case that it is
+both : (fs ws : List ℕ) (v : Verdict) → v ≡ checkVerdict fs ws → (verdictReply v ≡ checkReply fs ws) × (v ≡ verdictOf (checkReply fs ws))
+both fs ws v e = (ap verdictReply e, e ∙ verdict-case fs ws)
 
 check-fault-requires : tie.Need-check-fault-requires
 check-fault-requires c κs = search needs
@@ -23,7 +30,7 @@ returns : tie.Need-returns
 returns c =
     let a = c .before .before .before .before .args in
     let e = c .before .check-fault .ensures in
-    ap verdictReply (ap Refused e ∙ sym (refused-verdict (a .freqs .now) (a .words .now) (λ z. omega arith)))
+    both (a .freqs .now) (a .words .now) _ (ap Refused e ∙ sym (refused-verdict (a .freqs .now) (a .words .now) (λ z. omega arith)))
 
 quality-of-requires : tie.Need-quality-of-requires
 quality-of-requires c κs = search needs
@@ -42,7 +49,7 @@ returns-2 : tie.Need-returns-2
 returns-2 c =
     let a = c .before .before .before .before .before .before .args in
     let w = a .words .now in
-    ap verdictReply
+    both (a .freqs .now) w _
     (c .buckets-verdict .ensures
     ∙ ap (λ (q : Quality). firstFailing (bucketVerdict q (a .freqs .now) w) (buckets w) 0) (c .before .quality-of .ensures)
     ∙ sym (checked-verdict (a .freqs .now) w (passed (c .before .before))))

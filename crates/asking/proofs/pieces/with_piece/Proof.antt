@@ -9,7 +9,7 @@ use Rattle.estimate.specs.Fraction.{plus}
 use Rattle.estimate.specs.Exact.{piece}
 use Rattle.estimate.proofs.FractionLaws.{plus-nothing}
 use Rattle.estimate.proofs.ExactLaws.{piece-none}
-use Rattle.asking.specs.Asked.{Small}
+use Rattle.asking.specs.Private.Adding.{Small}
 use Rattle.asking.proofs.pieces.with_piece.Statement.{statement}
 use Rattle.asking.proofs.pieces.with_piece.Tie as tie
 use Rattle.asking.proofs.pieces.with_piece.Reads as reads

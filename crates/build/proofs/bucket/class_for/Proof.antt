@@ -31,7 +31,7 @@ reply : (c : tie.After-class-of) → let r = codedReply (c .class-of .result) in
 reply c =
     let s = c .before .before in
     let p = s .pre (omega arith) in
-    class-coded (s .args .count) _ (p .0) (p .1) (c .class-of .ensures)
+    class-coded (s .args .count) _ (p .0) (p .1) (c .class-of .ensures .0)
 
 returns-2 : tie.Need-returns-2
 returns-2 c = absurd (omega (arith, ap (λ (m : Coded). codedReply m .refusal) (sym (c .enum-told .given .1)) ∙ reply (c .before .before) .0))

@@ -21,7 +21,7 @@ enum-told c = search needs
 
 -- the reply of the call
 reply : (c : tie.After-code-of-total) → let r = codedReply (c .code-of-total .result) in (r .refusal ≡ 0) × (r .value ≡ totalCode (c .before .args .total))
-reply c = total-coded (c .before .args .total) _ (c .before .pre .0) (c .before .pre .1) (c .code-of-total .ensures)
+reply c = total-coded (c .before .args .total) _ (c .before .pre .0) (c .before .pre .1) (c .code-of-total .ensures .0)
 
 returns : tie.Need-returns
 returns c = absurd (omega (arith, ap (λ (m : Coded). codedReply m .refusal) (sym (c .enum-told .given .1)) ∙ reply (c .before .before) .0))

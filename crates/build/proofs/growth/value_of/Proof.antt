@@ -28,7 +28,7 @@ enum-told c = search needs
 returns : tie.Need-returns
 returns c =
     let v = c .before .before .before .args .count in
-    absurd (omega (arith, class-coded v _ (omega arith) (omega arith) (ap codedReply (sym (c .enum-told .given .1)) ∙ c .before .before .class-of .ensures) .0))
+    absurd (omega (arith, class-coded v _ (omega arith) (omega arith) (ap codedReply (sym (c .enum-told .given .1)) ∙ c .before .before .class-of .ensures .0) .0))
 
 -- the reply of the second call
 number-reply : (c : tie.After-number-of-class)
@@ -37,8 +37,8 @@ number-reply : (c : tie.After-number-of-class)
 number-reply c =
     let told = c .before .before .class .given in
     let v = c .before .before .before .before .before .args .count in
-    let d = class-coded v _ (omega arith) (omega arith) (ap codedReply (sym (told .1)) ∙ c .before .before .before .before .class-of .ensures) .1 in
-    let r = class-read (told .0 .0) _ (ap usedClass d ∙ class-used v (omega arith) (omega arith)) (c .number-of-class .ensures) in
+    let d = class-coded v _ (omega arith) (omega arith) (ap codedReply (sym (told .1)) ∙ c .before .before .before .before .class-of .ensures .0) .1 in
+    let r = class-read (told .0 .0) _ (ap usedClass d ∙ class-used v (omega arith) (omega arith)) (c .number-of-class .ensures .0) in
     (r .0, r .1 ∙ ap (classNumber base) d)
 
 number-of-class-requires : tie.Need-number-of-class-requires

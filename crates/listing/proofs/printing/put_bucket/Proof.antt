@@ -35,7 +35,7 @@ reply c =
     let s = c .before .before .before in
     let b = c .before .bucket-at in
     let valid = subst⁻¹ (λ (x : Bucket). validCode (x .total) ≡ true) (b .ensures) (histogram .holds (s .args .words .now) (s .pre .0 .readable) (s .args .b) (s .pre .1) .total-valid) in
-    total-read (b .result .total) _ valid (c .number-of-total .ensures)
+    total-read (b .result .total) _ valid (c .number-of-total .ensures .0)
 
 returns : tie.Need-returns
 returns c = absurd (omega (arith, ap (λ (m : Meaning). meaningReply m .refusal) (sym (c .enum-told .given .1)) ∙ reply (c .before .before) .0))

@@ -50,7 +50,7 @@ reply : (c : tie.After-number-of-class)
     (r .refusal ≡ 0) × (r .value ≡ classNumber base (classAt (a .t1) (a .k)))
 reply c =
     let s = c .before .before .before .before in
-    class-read (classAt (s .args .t1) (s .args .k)) _ (s .pre .0 .class-used (s .args .k) (s .pre .1) (omega arith)) (c .number-of-class .ensures)
+    class-read (classAt (s .args .t1) (s .args .k)) _ (s .pre .0 .class-used (s .args .k) (s .pre .1) (omega arith)) (c .number-of-class .ensures .0)
 
 returns-2 : tie.Need-returns-2
 returns-2 c = absurd (omega (arith, ap (λ (m : Meaning). meaningReply m .refusal) (sym (c .enum-told .given .1)) ∙ reply (c .before .before) .0))

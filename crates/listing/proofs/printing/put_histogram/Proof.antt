@@ -6,7 +6,7 @@ use borrow.Author.Needs.{needs}
 use Rattle.layout.specs.Words.{buckets}
 use Rattle.exam.specs.Sheet.{joined, bucketPart}
 use Rattle.exam.proofs.SheetLaws.{first-line-short}
-use Rattle.lines.specs.Line.{exactly}
+use Rattle.lines.specs.Line.{lineOf}
 use Rattle.listing.specs.Private.Printing.{Put}
 use Rattle.listing.proofs.PrintLaws.{put-nothing, line-length, put-line, head-text, next-room, more-buckets, all-buckets}
 use Rattle.listing.proofs.printing.put_histogram.Statement.{statement}
@@ -29,7 +29,7 @@ put-requires c κs =
     let s = c .before .before .before .before in
     let h = c .before .before .head-at in
     let l = c .before .head-line in
-    let text = l .ensures ∙ ap exactly (head-text (s .args .words .now) (h .result) (h .ensures)) in
+    let text = l .ensures ∙ ap lineOf (head-text (s .args .words .now) (h .result) (h .ensures)) in
     let same = line-length (l .result) _ text in
     let short = first-line-short (s .args .words .now) (s .pre) .within in
     (omega (arith, same, short), omega (arith, same, short))
@@ -49,7 +49,7 @@ put-bucket-requires c κs =
     let s = c .before .before .before .before .before .before .before .before .before in
     let h = c .before .before .before .before .before .before .before .head-at in
     let l = c .before .before .before .before .before .before .head-line in
-    let text = l .ensures ∙ ap exactly (head-text (s .args .words .now) (h .result) (h .ensures)) in
+    let text = l .ensures ∙ ap lineOf (head-text (s .args .words .now) (h .result) (h .ensures)) in
     let first = put-line (l .result) _ text (c .before .before .before .before .put .ensures) in
     let at = c .before .before .loop in
     let inside : at .b < buckets (s .args .words .now) = omega (arith, c .before .before .before .bucket-count .ensures) in
@@ -78,7 +78,7 @@ returns c =
     let s = c .before .before .before .before .before .before .before .before in
     let h = c .before .before .before .before .before .before .head-at in
     let l = c .before .before .before .before .before .head-line in
-    let text = l .ensures ∙ ap exactly (head-text (s .args .words .now) (h .result) (h .ensures)) in
+    let text = l .ensures ∙ ap lineOf (head-text (s .args .words .now) (h .result) (h .ensures)) in
     let first = put-line (l .result) _ text (c .before .before .before .put .ensures) in
     let at = c .before .loop in
     all-buckets (s .args .words .now) (s .args .out .now) _ (at .out) (at .b) _ (at .at) (omega (arith, at .inv .0, c .before .before .bucket-count .ensures)) first (at .inv .1)

@@ -32,7 +32,7 @@ enum-told c = search needs
 reply : (c : tie.After-number-of-class)
     → let r = meaningReply (c .number-of-class .result) in
     (r .refusal ≡ 0) × (r .value ≡ classNumber base (c .before .before .before .args .class))
-reply c = let s = c .before .before .before in class-read (s .args .class) _ (s .pre .used (omega arith)) (c .number-of-class .ensures)
+reply c = let s = c .before .before .before in class-read (s .args .class) _ (s .pre .used (omega arith)) (c .number-of-class .ensures .0)
 
 returns-2 : tie.Need-returns-2
 returns-2 c = absurd (omega (arith, ap (λ (m : Meaning). meaningReply m .refusal) (sym (c .enum-told .given .1)) ∙ reply (c .before .before) .0))

@@ -31,7 +31,7 @@ enum-told c = search needs
 reply : (c : tie.After-number-of-total)
     → let r = meaningReply (c .number-of-total .result) in
     (r .refusal ≡ 0) × (r .value ≡ totalNumber (c .before .before .args .code))
-reply c = let s = c .before .before in total-read (s .args .code) _ (s .pre .valid) (c .number-of-total .ensures)
+reply c = let s = c .before .before in total-read (s .args .code) _ (s .pre .valid) (c .number-of-total .ensures .0)
 
 returns : tie.Need-returns
 returns c = absurd (omega (arith, ap (λ (m : Meaning). meaningReply m .refusal) (sym (c .enum-told .given .1)) ∙ reply (c .before .before) .0))
