@@ -1,13 +1,13 @@
 -- The histogram of the definition is accepted for its list: each width fits by its rule, and each total is within 65/64 of its count.
 -- Assumes nothing.
 use mathlib.Core.Path.{_≡_, refl, sym, ap, _∙_}
-use mathlib.Core.Bool.{Bool, true, false, cond, not}
+use mathlib.Core.Bool.{true, false, not}
 use mathlib.Core.List.{List, [], _∷_, _++_}
 use mathlib.Core.Logic.{⊎-elim}
-use Prim.Native.Nat.{ℕ, _+_, _-_, _*_, _≤_, _<_, min}
+use Prim.Native.Nat.{ℕ, _*_, _≤_, _<_}
 use native.Mathlib.Nat.{eq-or-lt-of-le, mul-le-mul-left, mul-le-mul-right}
 use native.Mathlib.Omega.{arith}
-use borrow.Author.Tests.{eq-eqb, ne-eqb}
+use borrow.Author.Tests.{eq-eqb}
 use lib.Dec.{eqb}
 use lib.ListN.{length, getD}
 use Rattle.laws.specs.Each.{each}
@@ -17,7 +17,7 @@ use Rattle.laws.proofs.EachLaws.{each-all}
 use Rattle.laws.proofs.RefusalLaws.{numbered, append-passed, none-left}
 use Rattle.laws.proofs.RefusalLaws as law
 use Rattle.coding.specs.Base.{base, limit}
-use Rattle.coding.specs.Class.{classOf, classNumber}
+use Rattle.coding.specs.Class.{classNumber}
 use Rattle.coding.specs.Total.{totalCode, totalNumber}
 use Rattle.coding.proofs.TotalLaws.{count-within, number-within}
 use Rattle.layout.specs.declared.Bucket.{Bucket}
@@ -31,10 +31,10 @@ use Rattle.fit.specs.Accepted.{mismatch, checkFault, qualityOf, bucketletGood, 
 use Rattle.fit.proofs.FitLaws.{says-near}
 use Rattle.histogram.specs.Private.Sound.{Sound}
 use Rattle.histogram.specs.Width.{fitsAt}
-use Rattle.histogram.specs.Bucket.{limitsOf, bucketWidths, bucketFrom}
+use Rattle.histogram.specs.Bucket.{bucketWidths, bucketFrom}
 use Rattle.histogram.specs.Words.{stretch, words}
 use Rattle.histogram.proofs.WidthLaws.{count-small, width-fits}
-use Rattle.histogram.proofs.BucketLaws.{placeOf, widths-length, width-at, class-at}
+use Rattle.histogram.proofs.BucketLaws.{placeOf, widths-length, width-at, class-of-count}
 use Rattle.histogram.proofs.ReadBack.{startOf, entries-are, theta-is, qn-is, qd-is, buckets-are, start-is, span-is, bucket-is, readable-words}
 
 module _ (q : Quality) (fs : List ℕ) (sound : Sound fs q) where
@@ -45,13 +45,11 @@ module _ (q : Quality) (fs : List ℕ) (sound : Sound fs q) where
       let ws = bucketWidths q fs end a in
       let place = placeOf q fs end a k in
       let w = getD ws k 0 in
-      let most = min (getD (limitsOf (getD ws 0 0)) k 0) (end - place) in
       ⊎-elim
       (λ (e : 0 ≡ w). holds-left (eqb w 0) _ (eq-eqb w 0 (sym e)))
       (λ (l : 0 < w).
-      let v = partSum place w fs in
-      let c = class-at fs a ws k (omega (arith, widths-length q fs end a)) ∙ ap (λ (t : Bool). cond t 0 (classOf base v)) (ne-eqb w 0 (λ z. omega arith)) in
-      holds-right (eqb w 0) _ (ap (λ (c : ℕ). bucketletFits q fs place w (classNumber base c)) c ∙ width-fits q fs place most w (width-at q fs end a k h) l))
+      let c = class-of-count fs a ws k (omega (arith, widths-length q fs end a)) l in
+      holds-right (eqb w 0) _ (ap (λ (c : ℕ). bucketletFits q fs place w (classNumber base c)) c ∙ width-fits q fs place _ w (width-at q fs end a k h) l))
       (eq-or-lt-of-le (omega arith))
 
   -- a total and the number of its code are within 65/64, and so within q

@@ -4,15 +4,17 @@
 use mathlib.Core.Path.{_≡_, refl, sym, ap, subst, _∙_}
 use mathlib.Core.Bool.{Bool, true, false, cond}
 use mathlib.Core.List.{List, [], _∷_}
-use Prim.Native.Nat.{ℕ, zero, suc, _+_, _-_, _≤_, _<_, min}
-use native.Mathlib.Nat.{add-zero, le-of-suc-le-suc, not-suc-le-zero}
+use Prim.Native.Nat.{ℕ, zero, suc, _+_, _-_, _≤_, _<_}
+use native.Mathlib.Nat.{add-zero, le-trans, le-of-suc-le-suc, not-suc-le-zero}
 use native.Mathlib.Omega.{arith}
-use borrow.Author.Tests.{leb-true}
+use borrow.Author.Tests.{leb-true, eq-eqb, ne-eqb}
 use lib.Dec.{leb}
 use lib.ListN.{length, getD}
-use Rattle.laws.specs.Sums.{sum, prefixSum}
+use Rattle.laws.specs.Sums.{sum, prefixSum, partSum}
 use Rattle.laws.proofs.Table.{at}
 use Rattle.laws.proofs.SumsLaws.{getD-le-sum, prefix-suc, prefix-all}
+use Rattle.coding.specs.Base.{base}
+use Rattle.coding.specs.Class.{classOf}
 use Rattle.layout.specs.Limits.{maxListed, maxWidth}
 use Rattle.fit.specs.declared.Quality.{Quality}
 use Rattle.histogram.specs.Private.Sound.{Sound}
@@ -33,6 +35,13 @@ limit-bounds first k h = go (firstFree first)
 -- ---- widths that follow one another
 
 module _ (q : Quality) (fs : List ℕ) (end : ℕ) where
+  -- a width stops at its limit and at the end
+  stops-at-limit : (a most : ℕ) → widthWithin q fs end a most ≤ most
+  stops-at-limit a most = le-trans (width-within q fs a _) (omega arith)
+
+  stops-at-end : (a most : ℕ) → widthWithin q fs end a most ≤ end - a
+  stops-at-end a most = le-trans (width-within q fs a _) (omega arith)
+
   from-length : (a : ℕ) (limits : List ℕ) → length (widthsFrom q fs end a limits) ≡ length limits
   unfolding widthsFrom
   from-length a [] = refl
@@ -77,14 +86,16 @@ module _ (q : Quality) (fs : List ℕ) (end a : ℕ) where
   pub place-next : (k : ℕ) → placeOf (suc k) ≡ placeOf k + getD (bucketWidths q fs end a) k 0
   place-next k = omega (arith, prefix-suc k (bucketWidths q fs end a))
 
+  pub width-limited : (k : ℕ) → k < 8 → getD (bucketWidths q fs end a) k 0 ≤ getD (limitsOf (getD (bucketWidths q fs end a) 0 0)) k 0
+  width-limited k h = rw (width-at k h) (stops-at-limit q fs end (placeOf k) _)
+
+  width-inside : (k : ℕ) → k < 8 → getD (bucketWidths q fs end a) k 0 ≤ end - placeOf k
+  width-inside k h = rw (width-at k h) (stops-at-end q fs end (placeOf k) _)
+
   -- no bucketlet passes the end
   pub place-within : a ≤ end → (k : ℕ) → k ≤ 8 → placeOf k ≤ end
   place-within h zero l = omega arith
-  place-within h (suc k) l =
-      let w = width-at k l in
-      let most = getD (limitsOf (getD (bucketWidths q fs end a) 0 0)) k 0 in
-      let b = width-within q fs (placeOf k) (min most (end - placeOf k)) in
-      omega (arith, place-next k, w, b, place-within h k (omega arith))
+  place-within h (suc k) l = omega (arith, place-next k, width-inside k l, place-within h k (omega arith))
 
   pub next-is : a + sum (bucketWidths q fs end a) ≡ placeOf 8
   next-is = let e = prefix-all 8 (bucketWidths q fs end a) (omega (arith, widths-length)) in omega arith
@@ -97,8 +108,7 @@ module _ (q : Quality) (fs : List ℕ) (end a : ℕ) where
   module _ (sound : Sound fs q) (inside : end ≤ length fs) where
     pub width-pos : (k : ℕ) → k < 8 → placeOf k < end → 1 ≤ getD (bucketWidths q fs end a) k 0
     width-pos k h l =
-        rw (width-at k h)
-        (width-some q fs sound (placeOf k) (min (getD (limitsOf (getD (bucketWidths q fs end a) 0 0)) k 0) (end - placeOf k)) (omega (arith, limit-bounds (getD (bucketWidths q fs end a) 0 0) k h)) (omega arith))
+        rw (width-at k h) (width-some q fs sound (placeOf k) _ (omega (arith, limit-bounds (getD (bucketWidths q fs end a) 0 0) k h)) (omega arith))
 
     pub places-grow : (k : ℕ) → k ≤ 8 → placeOf k < end → k ≤ prefixSum k (bucketWidths q fs end a)
     places-grow zero h l = omega arith
@@ -130,3 +140,11 @@ class-at fs a (w ∷ ws) zero h = ap (λ (a : ℕ). bucketletClass fs a w) (sym 
 class-at fs a (w ∷ ws) (suc k) h =
     let e : a + w + prefixSum k ws ≡ a + (w + prefixSum k ws) = omega arith in
     class-at fs (a + w) ws k (le-of-suc-le-suc h) ∙ ap (λ (a : ℕ). bucketletClass fs a (getD ws k 0)) e
+
+-- the class of an empty bucketlet, and of one that holds an entry
+pub class-of-none : (fs : List ℕ) (a : ℕ) (ws : List ℕ) (k : ℕ) → k < length ws → getD ws k 0 ≡ 0 → getD (classesFrom fs a ws) k 0 ≡ 0
+class-of-none fs a ws k h e = rw (class-at fs a ws k h, eq-eqb (getD ws k 0) 0 e)
+
+pub class-of-count : (fs : List ℕ) (a : ℕ) (ws : List ℕ) (k : ℕ) → k < length ws → 1 ≤ getD ws k 0
+    → getD (classesFrom fs a ws) k 0 ≡ classOf base (partSum (a + prefixSum k ws) (getD ws k 0) fs)
+class-of-count fs a ws k h l = rw (class-at fs a ws k h, ne-eqb (getD ws k 0) 0 (λ z. omega arith))

@@ -7,5 +7,6 @@ pub mod BuildingLaws
 pub mod StretchLaws
 pub mod RangeLaws
 pub mod ReadBack
+pub mod RuleLaws
 pub mod AcceptedLaws
 pub mod Proved

@@ -11,6 +11,7 @@ use Rattle.histogram.specs.Claims.{Widths, Built, Building}
 use Rattle.histogram.proofs.SoundLaws.{sound-of}
 use Rattle.histogram.proofs.WidthLaws.{one-fits, width-largest}
 use Rattle.histogram.proofs.ReadBack.{buckets-are, bucket-is, readable-words, few}
+use Rattle.histogram.proofs.RuleLaws.{by-rule}
 use Rattle.histogram.proofs.AcceptedLaws.{accepted-words}
 
 pub widths : Widths
@@ -29,5 +30,6 @@ building = record { built = built }
           readable = readable-words q fs s;
           few = few q fs s;
           decoded = λ b h. bucket-is q fs s b (let n = buckets-are q fs s in omega arith);
+          by-rule = λ b h. by-rule q fs s b (let n = buckets-are q fs s in omega arith);
           accepted = accepted-words q fs s (append-first (listing fs) (parameters theta qn qd) refl e);
         }

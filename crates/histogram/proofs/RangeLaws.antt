@@ -4,17 +4,16 @@ use mathlib.Core.Path.{_≡_, refl, sym, ap, subst, _∙_}
 use mathlib.Core.Bool.{Bool, true, false, cond, not, _||_}
 use mathlib.Core.List.{List, [], _∷_}
 use mathlib.Core.Logic.{⊎-elim}
-use Prim.Native.Nat.{ℕ, zero, suc, _+_, _-_, _^_, _≤_, _<_, min}
+use Prim.Native.Nat.{ℕ, zero, suc, _+_, _^_, _≤_, _<_}
 use native.Mathlib.Nat.{eq-or-lt-of-le}
 use native.Mathlib.Omega.{arith}
-use borrow.Author.Tests.{ltb-false, leb-true, lt-leb, eq-eqb, ne-eqb}
+use borrow.Author.Tests.{ltb-false, leb-true, lt-leb, ne-eqb}
 use lib.Dec.{leb, eqb}
 use lib.ListN.{length, getD}
 use Rattle.laws.specs.Sums.{sum, partSum}
 use Rattle.laws.proofs.Tests.{true-not-false, holds-other, neither}
 use Rattle.laws.proofs.Table.{at}
-use Rattle.coding.specs.Base.{base, usedClass}
-use Rattle.coding.specs.Class.{classOf}
+use Rattle.coding.specs.Base.{usedClass}
 use Rattle.coding.specs.Total.{codeBits, codeShift, validCode}
 use Rattle.coding.proofs.BaseLaws.{class-used, used-says}
 use Rattle.coding.proofs.TotalLaws.{code-valid, valid-says}
@@ -24,8 +23,8 @@ use Rattle.layout.proofs.CodeLaws.{ClassGood}
 use Rattle.fit.specs.declared.Quality.{Quality}
 use Rattle.histogram.specs.Private.Sound.{Sound}
 use Rattle.histogram.specs.Bucket.{firstFree, limitsOf, bucketWidths, classesFrom, bucketFrom}
-use Rattle.histogram.proofs.WidthLaws.{width-within, count-some, count-small}
-use Rattle.histogram.proofs.BucketLaws.{placeOf, limit-bounds, widths-length, first-is, width-at, place-next, place-within, sum-within, sum-some, classes-length, class-at}
+use Rattle.histogram.proofs.WidthLaws.{count-some, count-small}
+use Rattle.histogram.proofs.BucketLaws.{placeOf, limit-bounds, widths-length, first-is, width-limited, place-next, place-within, sum-within, sum-some, classes-length, class-of-none, class-of-count}
 
 -- the limits but the first are those of listed widths, the last where the first is wide
 limit-listed : (first k : ℕ) → 1 ≤ k → k < 8 → (k ≡ 7 → firstFree first ≡ true) → getD (limitsOf first) k 0 ≤ maxListed
@@ -45,15 +44,8 @@ module _ (q : Quality) (fs : List ℕ) (end a : ℕ) where
   abbrev ws : List ℕ
   ws = bucketWidths q fs end a
 
-  -- a width is within its limit
-  width-limited : (k : ℕ) → k < 8 → getD ws k 0 ≤ getD (limitsOf (getD ws 0 0)) k 0
-  width-limited k h =
-      let most = getD (limitsOf (getD ws 0 0)) k 0 in
-      let b = width-within q fs (placeOf q fs end a k) (min most (end - placeOf q fs end a k)) in
-      omega (arith, width-at q fs end a k h, b)
-
   pub width-narrow : (k : ℕ) → k < 8 → getD ws k 0 ≤ maxWidth
-  width-narrow k h = omega (arith, width-limited k h, limit-bounds (getD ws 0 0) k h)
+  width-narrow k h = omega (arith, width-limited q fs end a k h, limit-bounds (getD ws 0 0) k h)
 
   -- all but the free one have nine bits
   listed : (k : ℕ) → k < 7 → getD ws (cond (not (firstFree (getD ws 0 0))) k (suc k)) 0 ≤ maxListed
@@ -61,23 +53,22 @@ module _ (q : Quality) (fs : List ℕ) (end a : ℕ) where
     where
       narrow : (k : ℕ) → k < 7 → firstFree (getD ws 0 0) ≡ false → getD ws k 0 ≤ maxListed
       narrow zero h e = ltb-false maxListed (getD ws 0 0) e
-      narrow (suc k) h e = omega (arith, width-limited (suc k) (omega arith), limit-listed (getD ws 0 0) (suc k) (omega arith) (omega arith) (λ z. absurd (omega arith)))
+      narrow (suc k) h e = omega (arith, width-limited q fs end a (suc k) (omega arith), limit-listed (getD ws 0 0) (suc k) (omega arith) (omega arith) (λ z. absurd (omega arith)))
 
       go : (t : Bool) → firstFree (getD ws 0 0) ≡ t → (k : ℕ) → k < 7 → getD ws (cond (not t) k (suc k)) 0 ≤ maxListed
-      go true e k h = omega (arith, width-limited (suc k) (omega arith), limit-listed (getD ws 0 0) (suc k) (omega arith) (omega arith) (λ z. e))
+      go true e k h = omega (arith, width-limited q fs end a (suc k) (omega arith), limit-listed (getD ws 0 0) (suc k) (omega arith) (omega arith) (λ z. e))
       go false e k h = narrow k h e
 
   module _ (sound : Sound fs q) (inside : end ≤ length fs) (before : a ≤ end) where
     -- the class of a bucketlet is 0, or one in use, as its width is
     class-range : (k : ℕ) → k < 8 → (getD ws k 0 ≡ 0 → getD (classesFrom fs a ws) k 0 ≡ 0) × (1 ≤ getD ws k 0 → usedClass (getD (classesFrom fs a ws) k 0) ≡ true)
     class-range k h =
-        let at-k = class-at fs a ws k (omega (arith, widths-length q fs end a)) in
+        let long : k < length ws = omega (arith, widths-length q fs end a) in
         let next = place-within q fs end a before (suc k) (omega arith) in (
-          λ e. at-k ∙ ap (λ (t : Bool). cond t 0 (classOf base (partSum (placeOf q fs end a k) (getD ws k 0) fs))) (eq-eqb (getD ws k 0) 0 e),
+          class-of-none fs a ws k long,
           λ l.
-              let v = partSum (placeOf q fs end a k) (getD ws k 0) fs in
-              let c : getD (classesFrom fs a ws) k 0 ≡ classOf base v = at-k ∙ ap (λ (t : Bool). cond t 0 (classOf base v)) (ne-eqb (getD ws k 0) 0 (λ z. omega arith)) in
-              ap usedClass c ∙ class-used v (count-some q fs sound (placeOf q fs end a k) (getD ws k 0) l (omega (arith, place-next q fs end a k))) (count-small q fs sound (placeOf q fs end a k) (getD ws k 0)),
+              ap usedClass (class-of-count fs a ws k long l)
+              ∙ class-used (partSum (placeOf q fs end a k) (getD ws k 0) fs) (count-some q fs sound (placeOf q fs end a k) (getD ws k 0) l (omega (arith, place-next q fs end a k))) (count-small q fs sound (placeOf q fs end a k) (getD ws k 0)),
         )
 
     class-small : (k : ℕ) → k < 8 → getD (classesFrom fs a ws) k 0 < 2 ^ 6

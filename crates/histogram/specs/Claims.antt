@@ -1,18 +1,23 @@
 -- What is claimed of building (document 01, "Building" and "What fits"); proofs/Proved.antt proves it.
 -- Assumes nothing.
 use mathlib.Core.Path.{_≡_}
-use mathlib.Core.Bool.{true}
+use mathlib.Core.Bool.{true, not}
 use mathlib.Core.List.{List}
-use Prim.Native.Nat.{ℕ, _+_, _*_, _≤_, _<_}
-use lib.ListN.{length}
+use Prim.Native.Nat.{ℕ, _+_, _-_, _*_, _≤_, _<_, min}
+use lib.ListN.{length, getD}
 use Rattle.laws.specs.Refusal.{refusal}
-use Rattle.layout.specs.Words.{buckets}
-use Rattle.layout.specs.Decoded.{bucketAt}
+use Rattle.laws.specs.Sums.{partSum}
+use Rattle.coding.specs.Base.{base}
+use Rattle.coding.specs.Class.{classOf}
+use Rattle.coding.specs.Total.{totalCode}
+use Rattle.layout.specs.declared.Bucket.{Bucket}
+use Rattle.layout.specs.Words.{buckets, start, span}
+use Rattle.layout.specs.Decoded.{classAt, bucketAt, bucketletStart}
 use Rattle.layout.specs.Reading.{Readable}
 use Rattle.fit.specs.declared.Quality.{Quality}
 use Rattle.fit.specs.Accepted.{accepted}
 use Rattle.histogram.specs.Width.{fitsAt, width}
-use Rattle.histogram.specs.Bucket.{bucketFrom}
+use Rattle.histogram.specs.Bucket.{firstFree, limitsOf, bucketFrom}
 use Rattle.histogram.specs.Words.{startFrom, words}
 use Rattle.histogram.specs.Building.{quality, inputs}
 
@@ -29,6 +34,29 @@ pub record Largest (q : Quality) (fs : List ℕ) (a most w : ℕ) : Type 0 where
 pub record Widths : Type 0 where
   pub width-largest : (q : Quality) (fs : List ℕ) (a most : ℕ) → Largest q fs a most (width q fs a most)
 
+-- the width of bucketlet k, 0 to 7, of a decoded bucket, and its limit
+abbrev pub widthAt : Bucket → ℕ → ℕ
+widthAt r k = getD (r .widths) k 0
+
+abbrev pub limitAt : Bucket → ℕ → ℕ
+limitAt r k = getD (limitsOf (widthAt r 0)) k 0
+
+-- bucketlet k is as wide as its rule allows, and its class is that of its count
+pub record AsWide (q : Quality) (fs : List ℕ) (r : Bucket) (k : ℕ) : Type 0 where
+  -- "the largest w such that it fits with each width 1 to w"; "widths stop at the end of the list", and at their limit
+  pub widest : Largest q fs (bucketletStart r k) (min (limitAt r k) (length fs - bucketletStart r k)) (widthAt r k)
+  -- "its class being that of its own true count"; where it is empty, "width 0, class 0"
+  pub class-of-count : 1 ≤ widthAt r k → classAt r k ≡ classOf base (partSum (bucketletStart r k) (widthAt r k) fs)
+  pub class-of-none : widthAt r k ≡ 0 → classAt r k ≡ 0
+
+-- bucket b of the words is laid out by the rules of "Building"
+pub record ByRule (q : Quality) (fs ws : List ℕ) (b : ℕ) : Type 0 where
+  pub as-wide : (k : ℕ) → k < 8 → AsWide q fs (bucketAt ws b) k
+  -- the first, "if it is wider than 511", "is the free one"; "otherwise the eighth is free"
+  pub eighth-free : bucketAt ws b .flag ≡ not (firstFree (widthAt (bucketAt ws b) 0))
+  -- "a bucket's total code is that of its own true count"
+  pub total-of-count : bucketAt ws b .total ≡ totalCode (partSum (start ws b) (span ws b) fs)
+
 -- a list, theta and q that no sentence 1 to 5 refuses
 pub record Built (fs : List ℕ) (theta qn qd : ℕ) : Type 0 where
   -- a bucketlet of width 1 fits
@@ -39,6 +67,8 @@ pub record Built (fs : List ℕ) (theta qn qd : ℕ) : Type 0 where
   -- what is read of them are the buckets of the definition
   pub decoded : (b : ℕ) → b < buckets (words (quality theta qn qd) fs)
       → bucketAt (words (quality theta qn qd) fs) b ≡ bucketFrom (quality theta qn qd) fs (length fs) (startFrom (quality theta qn qd) fs (length fs) 0 b)
+  -- each of its bucketlets as wide as its rule allows
+  pub by-rule : (b : ℕ) → b < buckets (words (quality theta qn qd) fs) → ByRule (quality theta qn qd) fs (words (quality theta qn qd) fs) b
   -- and the histogram is accepted for its list
   pub accepted : accepted fs (words (quality theta qn qd) fs) ≡ true
 
