@@ -18,13 +18,16 @@ use Rattle.estimate.specs.declared.Fraction.{Fraction}
 use Rattle.estimate.specs.Fraction.{nothing, rounded}
 use Rattle.estimate.specs.Exact.{inside, bucketletPiece, bucketPiece, exact}
 use Rattle.estimate.specs.Asking.{estimate, estimateReply}
-use Rattle.estimate.specs.Claims.{Sizes, Estimates}
-use Rattle.estimate.proofs.FractionLaws.{rounded-most, sum-none}
+use Rattle.estimate.specs.Claims.{Sizes, RoundedUp, Estimates}
+use Rattle.estimate.proofs.FractionLaws.{rounded-reaches, rounded-most, sum-none}
 use Rattle.estimate.proofs.ExactLaws.{inside-says, piece-none, bucket-parts}
 use Rattle.estimate.proofs.AskingLaws.{reply-is}
 use Rattle.estimate.proofs.CutLaws.{cuts, cuts-most}
 use Rattle.estimate.proofs.SpanLaws.{exact-holds}
 use Rattle.estimate.proofs.SizeLaws.{Sized, sized-joined, bucketlet-sized, total-sized}
+
+rounded-up : (e : Fraction) → 0 < e .bottom → RoundedUp e (rounded e)
+rounded-up e p = record { not-below = rounded-reaches e p; least = λ m. rounded-most e m p }
 
 module _ (ws : List ℕ) (readable : Readable ws) (x y : ℕ) where
   sized : Sized x y 0 (entries ws) (exact ws x y)
@@ -53,6 +56,10 @@ module _ (ws : List ℕ) (readable : Readable ws) (x y : ℕ) where
         answer-small = answer-small;
       }
 
+  sum-rounded-up : RoundedUp (exact ws x y) (estimate ws x y)
+  unfolding estimate
+  sum-rounded-up = rounded-up (exact ws x y) (sized .bottom-some)
+
 module _ (ws : List ℕ) (readable : Readable ws) (x : ℕ) where
   bucket-empty : (b : ℕ) → b < buckets ws → bucketPiece ws x x b ≡ nothing
   bucket-empty b h =
@@ -68,4 +75,4 @@ module _ (ws : List ℕ) (readable : Readable ws) (x : ℕ) where
   empty h = reply-is ws x x readable (omega arith) h ∙ ap (λ (e : Fraction). answered (rounded e)) (sum-none (buckets ws) (bucketPiece ws x x) bucket-empty)
 
 pub estimates : Estimates
-estimates = record { sizes = sizes; empty = empty }
+estimates = record { rounded-up = rounded-up; sum-rounded-up = sum-rounded-up; sizes = sizes; empty = empty }

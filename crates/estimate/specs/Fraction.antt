@@ -20,7 +20,7 @@ plus a b =
       bottom = a .bottom * b .bottom;
     }
 
--- rounded up to a whole number
+-- rounded up to a whole number (claim rounded-up)
 unfoldable pub rounded : Fraction → ℕ
 rounded e = e .whole + (e .top + (e .bottom - 1)) / e .bottom
 
