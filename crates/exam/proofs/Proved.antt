@@ -15,6 +15,7 @@ use Rattle.exam.specs.Input.{lines, value, asDescribed, numbers}
 use Rattle.exam.specs.Lines.{refusedLine}
 use Rattle.exam.specs.Sheet.{numbersSheet, sheet, filled}
 use Rattle.exam.specs.Claims.{maxInput, maxSheet, Exam}
+use Rattle.exam.proofs.TextLaws.{places-some, below-power, reaches-power}
 use Rattle.exam.proofs.LinesLaws.{described, input-short, read, written}
 use Rattle.exam.proofs.SheetLaws.{refused-short, list-short, filled-whole}
 
@@ -69,4 +70,13 @@ whole : (input old : List ℕ) → maxSheet ≤ length old → filled old (sheet
 whole input old h = filled-whole old (sheet input) (le-trans (short input) h)
 
 pub exam : Exam
-exam = record { read = read; written = written; long = long; cut = cut; short = short; whole = whole }
+exam =
+    record {
+      digit-count = λ n. record { some = places-some n; holds = below-power n; fewest = reaches-power n };
+      read = read;
+      written = written;
+      long = long;
+      cut = cut;
+      short = short;
+      whole = whole;
+    }

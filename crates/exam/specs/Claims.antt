@@ -3,10 +3,10 @@
 use mathlib.Core.Path.{_≡_}
 use mathlib.Core.Bool.{true}
 use mathlib.Core.List.{List, [], _∷_, _++_}
-use Prim.Native.Nat.{ℕ, _+_, _^_, _≤_, _<_}
+use Prim.Native.Nat.{ℕ, _+_, _-_, _^_, _≤_, _<_}
 use lib.Dec.{ltb}
 use lib.ListN.{length, take, drop}
-use Rattle.exam.specs.Text.{decimal}
+use Rattle.exam.specs.Text.{places, decimal}
 use Rattle.exam.specs.Input.{lineFeed, every, leastNumbers, mostNumbers, asDescribed, numbers}
 use Rattle.exam.specs.Lines.{refusedLine}
 use Rattle.exam.specs.Sheet.{sheet, filled}
@@ -24,7 +24,15 @@ maxInput = 45089
 abbrev pub maxSheet : ℕ
 maxSheet = 163377
 
+-- n has k digits: at least one, and as few as hold it
+pub record DigitCount (n k : ℕ) : Type 0 where
+  pub some : 1 ≤ k
+  pub holds : n < 10 ^ k
+  pub fewest : 1 < k → 10 ^ (k - 1) ≤ n
+
 pub record Exam : Type 0 where
+  -- a number is written with as many digits as it needs
+  pub digit-count : (n : ℕ) → DigitCount n (places n)
   -- an input is as described exactly if it is that many numbers, below 2^32, one a line; these are its numbers
   pub read : (ns : List ℕ) → every (λ n. ltb n (2 ^ 32)) ns ≡ true → leastNumbers ≤ length ns → length ns ≤ mostNumbers
       → (asDescribed (asLines ns) ≡ true) × (numbers (asLines ns) ≡ ns)

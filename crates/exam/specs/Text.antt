@@ -21,7 +21,7 @@ unfoldable pub digits : ℕ → ℕ → List ℕ
 digits zero n = []
 digits (suc k) n = digits k (n / 10) ++ (digitByte (n % 10) ∷ [])
 
--- how many digits n has: at least one, and as few as hold it
+-- how many digits n has: at least one, and as few as hold it (claim digit-count)
 unfoldable pub places : ℕ → ℕ
 places n = first (λ k. ltb n (10 ^ k)) n 1
 
