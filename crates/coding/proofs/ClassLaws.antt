@@ -141,9 +141,12 @@ module _ (b : Base) (above : b .den < b .num) (positive : 0 < b .den) where
       let under : classStart b c < s → ⊥ = λ l. omega (arith, p .before (classStart b c) l, q .reached) in
       omega arith
 
+  pub start-least : (c v : ℕ) → Reached b (c - 1) v → classStart b c ≤ v
+  start-least c v r = let a : v < classStart b c → ⊥ = λ l. omega (arith, start-is c .before v l, r) in omega arith
+
   -- a count of a class is not below its start, and below the next one's
   pub start-le : (v c : ℕ) → Class b v c → classStart b c ≤ v
-  start-le v c p = let a : v < classStart b c → ⊥ = λ l. omega (arith, start-is c .before v l, p .reached) in omega arith
+  start-le v c p = start-least c v (p .reached)
 
   pub below-next : (v c : ℕ) → Class b v c → v < classStart b (suc c)
   below-next v c p =

@@ -6,7 +6,7 @@ use Rattle.laws.specs.Search.{first, largest, root}
 use Rattle.coding.specs.Base.{base}
 use Rattle.coding.specs.Class.{classOf, classNumber}
 use Rattle.coding.specs.Claims.{Classes, Totals}
-use Rattle.coding.proofs.ClassLaws.{class-is, class-eq, class-mono, start-le, number-is, number-mono}
+use Rattle.coding.proofs.ClassLaws.{class-is, class-eq, class-mono, start-is, start-least, start-le, number-is, number-mono}
 use Rattle.coding.proofs.BaseLaws.{class-used, close, count-close}
 use Rattle.coding.proofs.TotalLaws as total
 
@@ -17,6 +17,8 @@ classes =
       has-class = class-is base (omega arith) (omega arith);
       one-class = class-eq base (omega arith) (omega arith);
       class-used = class-used;
+      start-reaches = λ c _. start-is base (omega arith) (omega arith) c .reached;
+      start-least = λ c v _. start-least base (omega arith) (omega arith) c v;
       class-starts = start-le base (omega arith) (omega arith);
       number-rule = number-is base (omega arith) (omega arith);
       number-has-class = λ c t. class-eq base (omega arith) (omega arith) _ c (close c t .inside);
@@ -31,6 +33,8 @@ classes =
 pub totals : Totals
 totals =
     record {
+      highest-bit = total.highest-is;
+      one-highest-bit = total.highest-eq;
       code-valid = total.code-valid;
       middle-within = λ s. total.middle-is s .within;
       middle-most = λ s m. total.middle-is s .most m;

@@ -6,6 +6,7 @@ use mathlib.Core.Bool.{Bool, true, false, cond, _&&_}
 use mathlib.Core.Logic.{⊎-elim}
 use Prim.Native.Nat.{ℕ, zero, suc, _+_, _-_, _*_, _/_, _%_, _^_, _≤_, _<_}
 use native.Mathlib.Nat.{eq-or-lt-of-le, mul-le-mul, mul-le-mul-right, pow-succ', div-mul-le-self, lt-div-mul-add, lt-of-mul-lt-mul-right, div-eq-of-lt-le}
+use native.Mathlib.Numerals.{add-one}
 use native.Mathlib.Omega.{arith}
 use borrow.Author.Tests.{leb-true, leb-false, ltb-true, ltb-false, eqb-true, le-leb}
 use lib.Dec.{leb, ltb, eqb, lit<}
@@ -13,6 +14,7 @@ use lib.Pow.{pow-pos, pow-mono, pow-add}
 use Rattle.laws.proofs.Tests.{both, both-left, both-right, holds-left, holds-right, either}
 use Rattle.laws.proofs.SearchLaws.{first-is, largest-is}
 use Rattle.coding.specs.Base.{limit}
+use Rattle.coding.specs.Claims.{HighestBit}
 use Rattle.coding.specs.Total.{highestBit, shift, bits, totalCode, codeBits, codeShift, middle, totalNumber, validFields, validCode}
 
 -- s is the shift of t
@@ -24,12 +26,12 @@ below-power : (n : ℕ) → n < 2 ^ n
 below-power zero = lit< tt
 below-power (suc n) = omega (arith, pow-succ' 2 n, below-power n)
 
--- the highest set bit, with its two bounds
-pub highest-is : (t : ℕ) → 1 ≤ t → (2 ^ highestBit t ≤ t) × (t < 2 ^ suc (highestBit t))
+-- the highest set bit, and that there is just one
+pub highest-is : (t : ℕ) → 1 ≤ t → HighestBit t (highestBit t)
 unfolding highestBit
 highest-is t h =
     let f = first-is (λ k. ltb t (2 ^ suc k)) t 0 in
-    (low (highestBit t) (f .before), high (highestBit t) (f .within) (f .passes))
+    record { from = low (highestBit t) (f .before); below = rw add-one (high (highestBit t) (f .within) (f .passes)) }
   where
     low : (k : ℕ) → ((m : ℕ) → 0 ≤ m → m < k → ltb t (2 ^ suc m) ≡ false) → 2 ^ k ≤ t
     low zero b = omega arith
@@ -38,6 +40,14 @@ highest-is t h =
     high : (k : ℕ) → k ≤ 0 + t → (k < 0 + t → ltb t (2 ^ suc k) ≡ true) → t < 2 ^ suc k
     high k w p =
         ⊎-elim (λ (e : k ≡ t). rw e (omega (arith, below-power t, pow-succ' 2 t))) (λ (l : k < t). ltb-true _ _ (p (omega arith))) (eq-or-lt-of-le (omega arith))
+
+highest-le : (t h k : ℕ) → HighestBit t h → HighestBit t k → h ≤ k
+highest-le t h k p q = let a : k < h → ⊥ = λ l. let m = pow-mono {i = k + 1} {j = h} (omega arith) in omega (arith, p .from, q .below) in omega arith
+
+pub highest-eq : (t h : ℕ) → HighestBit t h → highestBit t ≡ h
+highest-eq t h p =
+    let q = highest-is t (omega (arith, pow-pos h, p .from)) in
+    omega (arith, highest-le t h (highestBit t) p q, highest-le t (highestBit t) h q p)
 
 pub shift-is : (t : ℕ) → Shift t (shift t)
 unfolding shift
@@ -49,13 +59,13 @@ shift-is t = go (ltb t 128) refl
         let l = ltb-false t 128 e in
         let h = highest-is t (omega arith) in
         let k = highestBit t in
-        let far : 6 ≤ k = seventh k (h .1) in
+        let far : 6 ≤ k = seventh k (h .below) in
         let e1 : 2 ^ k ≡ 64 * 2 ^ (k - 6) = ap (λ (n : ℕ). 2 ^ n) {x = k} {y = 6 + (k - 6)} (omega arith) ∙ pow-add 2 6 (k - 6) in
-        record { below = omega (arith, h .1, pow-succ' 2 k, e1); above = λ _. omega (arith, h .0, e1) }
+        record { below = omega (arith, h .below, pow-succ' 2 k, ap (λ (n : ℕ). 2 ^ n) (add-one k), e1); above = λ _. omega (arith, h .from, e1) }
       where
-        seventh : (k : ℕ) → t < 2 ^ suc k → 6 ≤ k
+        seventh : (k : ℕ) → t < 2 ^ (k + 1) → 6 ≤ k
         seventh k g =
-            let a : k < 6 → ⊥ = λ q. let m = pow-mono {i = suc k} {j = 6} (omega arith) in omega (arith, ltb-false t 128 e) in
+            let a : k < 6 → ⊥ = λ q. let m = pow-mono {i = k + 1} {j = 6} (omega arith) in omega (arith, ltb-false t 128 e) in
             omega arith
 
 pub shift-le : (t u r s : ℕ) → t ≤ u → Shift t r → Shift u s → r ≤ s

@@ -6,7 +6,7 @@ use Prim.Native.Nat.{ℕ, _+_, _-_, _*_, _^_, _≤_, _<_}
 use Rattle.laws.specs.Search.{Root}
 use Rattle.coding.specs.Base.{base, limit, usedClass}
 use Rattle.coding.specs.Class.{Class, classOf, classStart, classNumber}
-use Rattle.coding.specs.Total.{totalCode, totalNumber, middle, validCode}
+use Rattle.coding.specs.Total.{highestBit, totalCode, totalNumber, middle, validCode}
 
 -- the number that stands for a count
 abbrev pub classValue : ℕ → ℕ
@@ -21,7 +21,10 @@ pub record Classes : Type 0 where
   pub one-class : (v c : ℕ) → Class base v c → classOf base v ≡ c
   -- and it is 1, or 3 to 62
   pub class-used : (v : ℕ) → 1 ≤ v → v ≤ limit → usedClass (classOf base v) ≡ true
-  -- the class begins at its smallest count
+  -- a class begins at the smallest count that reaches (7/5)^(c-1)
+  pub start-reaches : (c : ℕ) → 1 ≤ c → 7 ^ (c - 1) ≤ classStart base c * 5 ^ (c - 1)
+  pub start-least : (c v : ℕ) → 1 ≤ c → 7 ^ (c - 1) ≤ v * 5 ^ (c - 1) → classStart base c ≤ v
+  -- so none of its counts is smaller
   pub class-starts : (v c : ℕ) → Class base v c → classStart base c ≤ v
   -- its number is the largest whole root
   pub number-rule : (c : ℕ) → 1 ≤ c → Root (7 ^ (2 * c - 1)) (5 ^ (2 * c - 1)) (classNumber base c)
@@ -36,7 +39,15 @@ pub record Classes : Type 0 where
   -- the number never falls as the count grows
   pub number-grows : (v w : ℕ) → 1 ≤ v → v ≤ w → classValue v ≤ classValue w
 
+-- bit h is the highest that is set in t
+pub record HighestBit (t h : ℕ) : Type 0 where
+  pub from : 2 ^ h ≤ t
+  pub below : t < 2 ^ (h + 1)
+
 pub record Totals : Type 0 where
+  -- a total has just one highest set bit
+  pub highest-bit : (t : ℕ) → 1 ≤ t → HighestBit t (highestBit t)
+  pub one-highest-bit : (t h : ℕ) → HighestBit t h → highestBit t ≡ h
   -- the code of a count is valid
   pub code-valid : (t : ℕ) → 1 ≤ t → t ≤ limit → validCode (totalCode t) ≡ true
   -- the middle is the largest whole number by its rule
