@@ -14,15 +14,15 @@ reaches b k v = leb (b .num ^ k) (v * b .den ^ k)
 abbrev pub inClass : Base → ℕ → ℕ → Bool
 inClass b c v = reaches b (c - 1) v && not (reaches b c v)
 
--- the class of a count of at least 1; no class is above v times den
+-- the class of a count of at least 1; no class is above v times den (claims has-class, one-class)
 unfoldable pub classOf : Base → ℕ → ℕ
 classOf b v = first (λ c. inClass b c v) (v * b .den) 1
 
--- the smallest count that is not below the class, with which the class begins
+-- the smallest count that is not below the class, with which the class begins (claims start-reaches, start-least)
 unfoldable pub classStart : Base → ℕ → ℕ
 classStart b c = first (λ v. reaches b (c - 1) v) (b .num ^ c) 0
 
--- the number that a class stands for: the largest whole r with r squared at most base^(2c-1); class 0 stands for 0
+-- the number that a class stands for: the largest whole r with r squared at most base^(2c-1) (claim number-rule); class 0 stands for 0
 unfoldable pub classNumber : Base → ℕ → ℕ
 classNumber b zero = 0
 classNumber b (suc c) = root (b .num ^ (2 * suc c - 1)) (b .den ^ (2 * suc c - 1))

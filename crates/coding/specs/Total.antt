@@ -5,7 +5,7 @@ use Prim.Native.Nat.{ℕ, suc, _+_, _-_, _*_, _/_, _%_, _^_}
 use lib.Dec.{leb, ltb, eqb}
 use Rattle.laws.specs.Search.{first, largest}
 
--- the place of the highest set bit, counted from 0
+-- the place of the highest set bit, counted from 0 (claims highest-bit, one-highest-bit)
 unfoldable pub highestBit : ℕ → ℕ
 highestBit t = first (λ k. ltb t (2 ^ suc k)) t 0
 
@@ -25,7 +25,7 @@ codeBits c = c / 32
 abbrev pub codeShift : ℕ → ℕ
 codeShift c = c % 32
 
--- the largest whole m for which (m + 2^s) squared is at most 2^(2s+1); for shift 0 that is 0
+-- the largest whole m for which (m + 2^s) squared is at most 2^(2s+1) (claims middle-within, middle-most); for shift 0 that is 0
 unfoldable pub middle : ℕ → ℕ
 middle s = largest (λ m. leb ((m + 2 ^ s) * (m + 2 ^ s)) (2 ^ (2 * s + 1))) (2 ^ s)
 

@@ -18,6 +18,6 @@ valueOf v = classNumber base (classOf base v)
 unfoldable pub fitsAt : Quality → List ℕ → ℕ → ℕ → Bool
 fitsAt q fs a w = bucketletFits q fs a w (valueOf (partSum a w fs))
 
--- the largest w, at most the limit, such that it fits with each width 1 to w
+-- the largest w, at most the limit, such that it fits with each width 1 to w (claim width-largest)
 unfoldable pub width : Quality → List ℕ → ℕ → ℕ → ℕ
 width q fs a limit = largest (fitsAt q fs a) limit

@@ -23,7 +23,7 @@ finding ws e = reading ws ++ (record { number = 15; holds = entryFault ws e } �
 abbrev pub findFault : List ℕ → ℕ → ℕ
 findFault ws e = refusal (finding ws e)
 
--- the first bucket whose end is above the entry
+-- the first bucket whose end is above the entry (claims has-bucket, one-bucket)
 unfoldable pub bucketOf : List ℕ → ℕ → ℕ
 bucketOf ws e = first (λ b. ltb e (end ws b)) (buckets ws) 0
 
@@ -37,6 +37,6 @@ findReply ws e =
 abbrev pub found : List ℕ → ℕ → List ℕ
 found ws e = cond (eqb (findFault ws e) 0) (take bucketWords (drop (place (bucketOf ws e) 0) ws)) []
 
--- the first bucketlet, 0 to 7, of a bucket whose end is above the entry
+-- the first bucketlet, 0 to 7, of a bucket whose end is above the entry (claims has-bucketlet, one-bucketlet)
 unfoldable pub bucketletOf : Bucket → ℕ → ℕ
 bucketletOf r e = first (λ k. ltb e (bucketletEnd r k)) 8 0
