@@ -14,10 +14,14 @@ use Rattle.fit.specs.declared.Quality.{Quality}
 use Rattle.histogram.specs.Sound.{Sound}
 use Rattle.histogram.specs.Bucket.{firstFree, bucketWidths, bucketFrom}
 use Rattle.histogram.specs.Words.{stretch, words}
-use Rattle.histogram.specs.Claims.{widthAt, AsWide, ByRule}
+use Rattle.histogram.specs.Claims.{Largest, widthAt, AsWide, ByRule}
 use Rattle.histogram.proofs.WidthLaws.{width-largest}
 use Rattle.histogram.proofs.BucketLaws.{placeOf, widths-length, width-at, class-of-none, class-of-count}
 use Rattle.histogram.proofs.ReadBack.{startOf, start-is, span-is, bucket-is}
+
+-- the largest within a limit is that within an equal one
+same-limit : {q : Quality} {fs : List ℕ} {a most limit w : ℕ} → Largest q fs a most w → most ≡ limit → Largest q fs a limit w
+same-limit {q} {fs} {a} {most} {limit} {w} l e = subst (λ (n : ℕ). Largest q fs a n w) e l
 
 -- bucketlets of the definition
 as-wide : (q : Quality) (fs : List ℕ) (a k : ℕ) → k < 8 → AsWide q fs (bucketFrom q fs (length fs) a) k
@@ -26,7 +30,7 @@ as-wide q fs a k h =
     let ws = bucketWidths q fs (length fs) a in
     let long : k < length ws = omega (arith, widths-length q fs (length fs) a) in
     record {
-      widest = rw (width-at q fs (length fs) a k h) (width-largest q fs (placeOf q fs (length fs) a k) _);
+      widest = rw (width-at q fs (length fs) a k h) (same-limit (width-largest q fs (placeOf q fs (length fs) a k) _) (omega arith));
       class-of-count = class-of-count fs a ws k long;
       class-of-none = class-of-none fs a ws k long;
     }
