@@ -1,0 +1,181 @@
+/*
+ * Calls every function of qh.h on input whose whole answer is known, and compares each field, word and byte of it. The
+ * proofs go by name: with two fields of a struct or two parameters of a call exchanged, the library would still be
+ * proved, and a program in C would read and lend the wrong ones. So the figures of an answer differ from one another
+ * where they can, and they are set by the names of the fields, never by their order.
+ *
+ * The figures are those of document 01, "Examples", of crates/.../specs, or reckoned by hand, as is said at each.
+ */
+#include <inttypes.h>
+#include <qh.h>
+#include <stdio.h>
+#include <string.h>
+
+#define MARK 0xA5 /* in every byte of a list that is lent to be written */
+#define MARKED_WORD UINT32_C(0xA5A5A5A5)
+#define LIST(array) array, sizeof array / sizeof *array
+
+static size_t passed, failed;
+
+/* Frequencies, and words of histograms. */
+static const uint32_t four_tens[] = {10, 10, 10, 10}; /* with its words, of document 01: theta 1, q 3/2 */
+static const uint32_t tens[] = {4, 1, 0xC02, 1, 0x40000204, 0x8B000000, 0x80000500, 0xC0000000, 0xC0000000};
+static const uint32_t two[] = { /* of layout/specs/Examples.antt: two buckets, of the entries 0 to 3 and 4 to 9 */
+    10, 1, 0xC02, 2, 0x40000201, 0x810C4140, 0x80000500, 0xC0040201, 0xC0000000,
+    0x40001001, 0x881C0180, 0x80000801, 0xC0000200, 0xC0000000};
+
+static void figure(const char *what, const char *part, uint64_t expected, uint64_t got) {
+    if (got == expected) {
+        passed++;
+    } else {
+        failed++;
+        printf("FAIL: %s, %s: expected %" PRIu64 ", got %" PRIu64 "\n", what, part, expected, got);
+    }
+}
+
+static void figure_at(const char *what, const char *part, size_t place, uint64_t expected, uint64_t got) {
+    char name[64];
+    snprintf(name, sizeof name, "%s %zu", part, place);
+    figure(what, name, expected, got);
+}
+
+static void coded(const char *what, QhCoded got, QhCoded expected) {
+    figure(what, "refusal", expected.refusal, got.refusal);
+    figure(what, "value", expected.value, got.value);
+}
+
+static void counts(void) {
+    /* document 01: count, class, number 100, 14, 93; total, code, number 1000, 4003, 1003 */
+    coded("the class of 100", qh_class_of(100), (QhCoded){.value = 14});
+    coded("the number of class 14", qh_number_of_class(14), (QhCoded){.value = 93});
+    coded("the code of 1000", qh_code_of_total(1000), (QhCoded){.value = 4003});
+    coded("the number of code 4003", qh_number_of_total(4003), (QhCoded){.value = 1003});
+    /* its sentences 16 and 17 */
+    coded("the class of 0", qh_class_of(0), (QhCoded){.refusal = 16});
+    coded("the number of class 2", qh_number_of_class(2), (QhCoded){.refusal = 17});
+    coded("the code of 1,073,741,824", qh_code_of_total(1073741824), (QhCoded){.refusal = 16});
+    coded("the number of code 2072", qh_number_of_total(2072), (QhCoded){.refusal = 17});
+}
+
+static uint32_t out[16];
+
+/* Compares what was built into out, also past it, and marks out for the next. */
+static void built(const char *what, QhBuilt got, QhBuilt expected, const uint32_t *words) {
+    figure(what, "refusal", expected.refusal, got.refusal);
+    figure(what, "words", expected.words, got.words);
+    for (size_t i = 0; i < sizeof out / sizeof *out; i++) {
+        figure_at(what, "word", i, i < expected.words ? words[i] : MARKED_WORD, out[i]);
+    }
+    memset(out, MARK, sizeof out);
+}
+
+/* No two of theta, qn and qd are equal: the head words tell them apart. */
+static void builds(void) {
+    /* the widths 3 and 1 are those of histogram/specs/Worked.antt; by hand: 9 has class 7, 10 the code 320 */
+    const uint32_t fours[] = {4, 1, 4, 1};
+    const uint32_t of_fours[] = {4, 7, 0x1404, 1, 0x40000203, 0x87040000, 0x80000140, 0xC0040000, 0xC0000000};
+    /* by hand: 1 and 100 never go together (document 01); 404 has the code 3234; the ninth entry is a bucket */
+    const uint32_t turns[] = {1, 100, 1, 100, 1, 100, 1, 100, 1};
+    const uint32_t of_turns[] = {9, 1, 0xC02, 2, 0x40000201, 0x81381381, 0x8E04ECA2, 0xC0040201, 0xC0040201,
+                                 0x40002201, 0x81000000, 0x80000020, 0xC0000000, 0xC0000000};
+    memset(out, MARK, sizeof out);
+    built("10, 10, 10, 10", qh_build(LIST(four_tens), 1, 3, 2, LIST(out)), (QhBuilt){.words = 9}, tens);
+    built("4, 1, 4, 1", qh_build(LIST(fours), 7, 5, 4, LIST(out)), (QhBuilt){.words = 9}, of_fours);
+    built("nine entries", qh_build(LIST(turns), 1, 3, 2, LIST(out)), (QhBuilt){.words = 14}, of_turns);
+    /* document 01: the sentences 1 to 6, tested in this order */
+    built("no entry", qh_build(fours, 0, 1, 3, 2, LIST(out)), (QhBuilt){.refusal = 1}, NULL);
+    built("theta 0", qh_build(LIST(fours), 0, 124, 100, LIST(out)), (QhBuilt){.refusal = 4}, NULL);
+    built("q 124/100", qh_build(LIST(fours), 1, 124, 100, LIST(out)), (QhBuilt){.refusal = 5}, NULL);
+    built("eight words for nine", qh_build(LIST(four_tens), 1, 3, 2, out, 8), (QhBuilt){.refusal = 6}, NULL);
+}
+
+static void verdict(const char *what, QhVerdict got, QhVerdict expected) {
+    figure(what, "refusal", expected.refusal, got.refusal);
+    figure(what, "accepted", expected.accepted, got.accepted);
+    figure(what, "sort", expected.sort, got.sort);
+    figure(what, "start", expected.start, got.start);
+    figure(what, "end", expected.end, got.end);
+}
+
+/* The examples of verdict/specs/Worked.antt, by their names there; the first two are document 01's. */
+static void verdicts(void) {
+    const uint32_t hundred[] = {10, 10, 10, 100}, sixty[] = {6, 6, 4, 6, 6, 60}, forty[] = {10, 10, 10, 40};
+    const uint32_t twos[] = {2, 2, 2, 2};
+    const uint32_t gaps[] = {6, 1, 0x801, 1, 0x40000002, 0x80200005, 0x80240420, 0xC0000001, 0xC0000600};
+    const uint32_t one[] = {4, 1, 0xC02, 1, 0x40000204, 0x8C000000, 0x800008C0, 0xC0000000, 0xC0000000};
+    const uint32_t wrong_total[] = {4, 100, 0xC02, 2, 0x40000202, 0x85000000, 0x80000080, 0xC0000000, 0xC0000000,
+                                    0x40000A02, 0x85000000, 0x80000120, 0xC0000000, 0xC0000000};
+    verdict("tens-taken", qh_check(LIST(four_tens), LIST(tens)), (QhVerdict){.accepted = 1});
+    verdict("tens-hundred", qh_check(LIST(hundred), LIST(tens)), (QhVerdict){.sort = 1, .start = 0, .end = 4});
+    verdict("after-gaps", qh_check(LIST(sixty), LIST(gaps)), (QhVerdict){.sort = 1, .start = 3, .end = 6});
+    verdict("later-start", qh_check(LIST(forty), LIST(one)), (QhVerdict){.sort = 2, .start = 1, .end = 4});
+    verdict("next-total", qh_check(LIST(twos), LIST(wrong_total)), (QhVerdict){.sort = 3, .start = 2, .end = 4});
+    verdict("no-entry", qh_check(four_tens, 0, tens, 0), (QhVerdict){.refusal = 1});
+    verdict("no-words", qh_check(four_tens, 1, tens, 0), (QhVerdict){.refusal = 7});
+    verdict("other-length", qh_check(four_tens, 1, LIST(tens)), (QhVerdict){.refusal = 13});
+}
+
+static void estimated(const char *what, QhEstimate got, QhEstimate expected) {
+    figure(what, "refusal", expected.refusal, got.refusal);
+    figure(what, "estimate", expected.estimate, got.estimate);
+}
+
+/* Of tens document 01's examples, and "turned" and those of two of estimate/specs/Worked.antt. */
+static void estimates(void) {
+    estimated("1 to 3 of tens", qh_estimate(LIST(tens), 1, 3), (QhEstimate){.estimate = 17});
+    estimated("0 to 3 of tens", qh_estimate(LIST(tens), 0, 3), (QhEstimate){.estimate = 26});
+    estimated("0 to 4 of tens", qh_estimate(LIST(tens), 0, 4), (QhEstimate){.estimate = 40});
+    estimated("4 to 4 of tens", qh_estimate(LIST(tens), 4, 4), (QhEstimate){.estimate = 0});
+    estimated("4 to 5 of tens", qh_estimate(LIST(tens), 4, 5), (QhEstimate){.refusal = 14});
+    estimated("3 to 2 of tens, turned", qh_estimate(LIST(tens), 3, 2), (QhEstimate){.refusal = 14});
+    estimated("4 to 5 of eight words", qh_estimate(tens, 8, 4, 5), (QhEstimate){.refusal = 8});
+    estimated("2 to 10 of two", qh_estimate(LIST(two), 2, 10), (QhEstimate){.estimate = 135});
+    estimated("3 to 5 of two", qh_estimate(LIST(two), 3, 5), (QhEstimate){.estimate = 7});
+}
+
+static void found(const char *what, QhFound got, QhFound expected) {
+    figure(what, "refusal", expected.refusal, got.refusal);
+    figure(what, "at", expected.at, got.at);
+}
+
+/* "places" and "faults" of layout/specs/Examples.antt. */
+static void places(void) {
+    found("entry 3 of two", qh_find(LIST(two), 3), (QhFound){.at = 4});
+    found("entry 4 of two", qh_find(LIST(two), 4), (QhFound){.at = 9});
+    found("entry 10 of two", qh_find(LIST(two), 10), (QhFound){.refusal = 15});
+    found("entry 10 of thirteen words", qh_find(two, 13, 10), (QhFound){.refusal = 8});
+    found("entry 0 of no word", qh_find(two, 0, 0), (QhFound){.refusal = 7});
+}
+
+static uint8_t page[QH_SHEET_BYTES];
+
+/* Compares the first byte of the page that is not as expected, or else the last. */
+static void sheet(const char *what, const char *input, const char *expected) {
+    size_t length = strlen(expected), at = 0;
+    memset(page, MARK, sizeof page);
+    figure(what, "bytes", length, qh_sheet((const uint8_t *)input, strlen(input), page));
+    while (at < sizeof page - 1 && page[at] == (at < length ? (uint8_t)expected[at] : MARK)) {
+        at++;
+    }
+    figure_at(what, "byte", at, at < length ? (uint8_t)expected[at] : MARK, page[at]);
+}
+
+/* Document 01, "The exam sheet", and refusals of exam/specs/Worked.antt. */
+static void sheets(void) {
+    sheet("the sheet of 1, 100", "1\n3\n2\n1\n100\n",
+          "codes 2 theta 1 q 3/2 buckets 1\nbucket 0 2 total 3232 101\n0 1 code 1 count 1\n1 2 code 14 count 93\n");
+    sheet("the sheet of q 124/100", "1\n124\n100\n1\n", "refused 5\n");
+    sheet("the sheet of no entry", "1\n3\n2\n", "refused 18\n");
+}
+
+int main(void) {
+    setvbuf(stdout, NULL, _IOLBF, BUFSIZ); /* no line is lost if a call crashes */
+    counts();
+    builds();
+    verdicts();
+    estimates();
+    places();
+    sheets();
+    printf("%zu passed, %zu failed\n", passed, failed);
+    return failed != 0;
+}
