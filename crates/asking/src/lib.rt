@@ -40,7 +40,7 @@ fn rounded_of(e: Fraction) -> u64
     e.whole + (e.top + (e.bottom - 1)) / e.bottom
 }
 
-// The estimate of the range from x to y: one sum, rounded up once.
+// The estimate of the range from x to y: one sum, rounded up once, and 0 for the empty range.
 pub fn estimate(words: &[u32], x: u32, y: u32) -> Asked
     ensures { λ r. ⌜ askedReply r ≡ estimateReply (now (words .entry)) x y ⌝ }
     ensures { λ r. ⌜ r ≡ askedOf (estimateReply (now (words .entry)) x y) ⌝ }
@@ -48,6 +48,9 @@ pub fn estimate(words: &[u32], x: u32, y: u32) -> Asked
     let fault = ask_fault(words, x, y);
     if fault != 0 {
         return Asked::Refused(fault);
+    }
+    if x == y {
+        return Asked::Estimate(0);
     }
     Asked::Estimate(rounded_of(exact_of(words, x, y)))
 }

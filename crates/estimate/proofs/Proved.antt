@@ -70,9 +70,12 @@ module _ (ws : List ℕ) (readable : Readable ws) (x : ℕ) where
       bucket-parts ws x x b out
       ∙ sum-none 8 (bucketletPiece x x r) (λ j l. piece-none x x (bucketletStart r j) (getD (r .widths) j 0) (classNumber base (classAt r j)) (omega arith))
 
-  pub empty : x ≤ entries ws → estimateReply ws x x ≡ answered 0
+  pub none : estimate ws x x ≡ 0
   unfolding exact estimate rounded
-  empty h = reply-is ws x x readable (omega arith) h ∙ ap (λ (e : Fraction). answered (rounded e)) (sum-none (buckets ws) (bucketPiece ws x x) bucket-empty)
+  none = ap rounded (sum-none (buckets ws) (bucketPiece ws x x) bucket-empty)
+
+  empty : x ≤ entries ws → estimateReply ws x x ≡ answered 0
+  empty h = reply-is ws x x readable (omega arith) h ∙ ap answered none
 
 pub estimates : Estimates
 estimates = record { rounded-up = rounded-up; sum-rounded-up = sum-rounded-up; sizes = sizes; empty = empty }

@@ -11,7 +11,7 @@ use Rattle.coding.specs.Total.{totalCode}
 use Rattle.layout.specs.declared.Bucket.{Bucket}
 use Rattle.layout.specs.Words.{span}
 use Rattle.fit.specs.declared.Quality.{Quality}
-use Rattle.histogram.specs.Sound.{Sound}
+use Rattle.histogram.specs.Private.Sound.{Sound}
 use Rattle.histogram.specs.Bucket.{firstFree, bucketWidths, bucketFrom}
 use Rattle.histogram.specs.Words.{stretch, words}
 use Rattle.histogram.specs.Claims.{Largest, widthAt, AsWide, ByRule}

@@ -138,35 +138,29 @@ fn number_of(sort: Sort) -> u32
     }
 }
 
+fn answer(refusal: u32, accepted: u32, sort: u32, start: u32, end: u32) -> QhVerdict
+    ensures { λ r. ⌜ r ≡ record { refusal = refusal; accepted = accepted; sort = sort; start = start; end = end } ⌝ }
+{
+    QhVerdict {
+        refusal,
+        accepted,
+        sort,
+        start,
+        end,
+    }
+}
+
 // Whether a histogram is accepted for a list, and else what fails first; refused with 1 to 3 and 7 to 13.
 #[no_mangle]
 pub extern "C" fn qh_check(freqs: &[u32], words: &[u32]) -> QhVerdict
     ensures { λ r. ⌜ r ≡ verdictStruct (checkReply (now (freqs .entry)) (now (words .entry))) ⌝ }
 {
     match verify::check(freqs, words) {
-        Verdict::Refused(refusal) => QhVerdict {
-            refusal,
-            accepted: 0,
-            sort: 0,
-            start: 0,
-            end: 0,
-        },
-        Verdict::Accepted => QhVerdict {
-            refusal: 0,
-            accepted: 1,
-            sort: 0,
-            start: 0,
-            end: 0,
-        },
+        Verdict::Refused(refusal) => answer(refusal, 0, 0, 0, 0),
+        Verdict::Accepted => answer(0, 1, 0, 0, 0),
         Verdict::Fails(failing) => {
             let sort = failing.sort;
-            QhVerdict {
-                refusal: 0,
-                accepted: 0,
-                sort: number_of(sort),
-                start: failing.start,
-                end: failing.end,
-            }
+            answer(0, 0, number_of(sort), failing.start, failing.end)
         }
     }
 }

@@ -14,8 +14,14 @@ check-requires c κs = search needs
 enum-known-refusal : tie.Need-enum-known-refusal
 enum-known-refusal c = search needs
 
+answer-requires : tie.Need-answer-requires
+answer-requires c κs = search needs
+
 enum-told : tie.Need-enum-told
 enum-told c = search needs
+
+answer-requires-2 : tie.Need-answer-requires-2
+answer-requires-2 c κs = search needs
 
 enum-known-failing : tie.Need-enum-known-failing
 enum-known-failing c = search needs
@@ -23,19 +29,26 @@ enum-known-failing c = search needs
 number-of-requires : tie.Need-number-of-requires
 number-of-requires c κs = search needs
 
+answer-requires-3 : tie.Need-answer-requires-3
+answer-requires-3 c κs = search needs
+
 returns : tie.Need-returns
-returns c = ap verdictStruct (ap verdictReply (sym (c .before .refusal .given .1)) ∙ c .before .before .before .check .ensures .0)
+returns c =
+    c .answer .ensures
+    ∙ ap verdictStruct (ap verdictReply (sym (c .before .before .refusal .given .1)) ∙ c .before .before .before .before .check .ensures .0)
 
 returns-2 : tie.Need-returns-2
-returns-2 c = ap verdictStruct (ap verdictReply (sym (c .enum-told .given .1)) ∙ c .before .before .check .ensures .0)
+returns-2 c =
+    c .answer2 .ensures ∙ ap verdictStruct (ap verdictReply (sym (c .before .enum-told .given .1)) ∙ c .before .before .before .check .ensures .0)
 
 returns-3 : tie.Need-returns-3
 returns-3 c =
-    let f = c .before .before .failing .given in
-    ap verdictStruct
-    (ap (λ (n : ℕ). failedAnswer n (f .0 .0 .start) (f .0 .0 .end)) (c .number-of .ensures)
+    let f = c .before .before .before .failing .given in
+    c .answer3 .ensures
+    ∙ ap verdictStruct
+    (ap (λ (n : ℕ). failedAnswer n (f .0 .0 .start) (f .0 .0 .end)) (c .before .number-of .ensures)
     ∙ ap verdictReply (sym (f .1))
-    ∙ c .before .before .before .before .check .ensures .0)
+    ∙ c .before .before .before .before .before .check .ensures .0)
 
 pub qh-check-spec : {M : Type 1} → statement M
 qh-check-spec =
@@ -43,9 +56,12 @@ qh-check-spec =
     (tie.spec
     check-requires
     enum-known-refusal
+    answer-requires
     enum-told
+    answer-requires-2
     enum-known-failing
     number-of-requires
+    answer-requires-3
     returns
     returns-2
     returns-3)
