@@ -11,7 +11,7 @@ use Rattle.coding.specs.Base.{base}
 use Rattle.coding.specs.Class.{classOf}
 use Rattle.coding.specs.Total.{totalCode}
 use Rattle.layout.specs.declared.Bucket.{Bucket}
-use Rattle.layout.specs.Words.{buckets, start, span}
+use Rattle.layout.specs.Words.{entries, theta as thetaIn, qn as qnIn, qd as qdIn, buckets, start, span}
 use Rattle.layout.specs.Decoded.{classAt, bucketAt, bucketletStart}
 use Rattle.layout.specs.Reading.{Readable}
 use Rattle.fit.specs.declared.Quality.{Quality}
@@ -64,7 +64,12 @@ pub record Built (fs : List ℕ) (theta qn qd : ℕ) : Type 0 where
   -- the words are a histogram, of at most a bucket for eight entries and one more for what is left
   pub readable : Readable (words (quality theta qn qd) fs)
   pub few : 8 * buckets (words (quality theta qn qd) fs) ≤ length fs + 7
-  -- what is read of them are the buckets of the definition
+  -- the head words hold d, theta and q as they were given
+  pub head-entries : entries (words (quality theta qn qd) fs) ≡ length fs
+  pub head-theta : thetaIn (words (quality theta qn qd) fs) ≡ theta
+  pub head-qn : qnIn (words (quality theta qn qd) fs) ≡ qn
+  pub head-qd : qdIn (words (quality theta qn qd) fs) ≡ qd
+  -- what is read of the others are the buckets of the definition
   pub decoded : (b : ℕ) → b < buckets (words (quality theta qn qd) fs)
       → bucketAt (words (quality theta qn qd) fs) b ≡ bucketFrom (quality theta qn qd) fs (length fs) (startFrom (quality theta qn qd) fs (length fs) 0 b)
   -- each of its bucketlets as wide as its rule allows
