@@ -34,6 +34,8 @@
  *     a list that another thread writes during the call: what happens then is not known;
  *   - a null pointer with length 0. An empty list has length 0 and any pointer that is not null; the tests see that a
  *     null pointer is answered in the same way;
+ *   - the order and the types, in this header, of the fields of a struct and of the parameters of a call, which are
+ *     tested;
  *   - faults of the compiler, the linker and the machine, and qh_sentence, which is plain C.
  */
 #ifndef QH_H

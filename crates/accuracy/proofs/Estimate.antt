@@ -14,12 +14,13 @@ use Rattle.coding.specs.Total.{totalNumber}
 use Rattle.layout.specs.Words.{entries, theta, qn, qd, buckets, start, end, span}
 use Rattle.layout.specs.Decoded.{bucketAt, classAt, bucketletStart, bucketletEnd}
 use Rattle.layout.proofs.Proved.{histogram}
+use Rattle.layout.proofs.EntryLaws.{bucketlet-end}
 use Rattle.fit.specs.Accepted.{qualityOf}
 use Rattle.estimate.specs.Fraction.{number}
 use Rattle.estimate.specs.Exact.{inside, bucketletPiece, exact}
 use Rattle.estimate.proofs.ExactLaws.{inside-says}
 use Rattle.estimate.proofs.CutLaws.{cuts-most}
-use Rattle.estimate.proofs.SpanLaws.{bucketlet-end, exact-holds}
+use Rattle.estimate.proofs.SpanLaws.{exact-holds}
 use Rattle.accuracy.proofs.Split.{Split, split-near, split-more, split-as}
 use Rattle.accuracy.proofs.Ranges.{countIn, count-some, count-all, Spanned, spanned-joined}
 use Rattle.accuracy.proofs.Pieces.{bucketlet-spanned}

@@ -13,6 +13,7 @@ use Rattle.coding.specs.Base.{base}
 use Rattle.coding.specs.Class.{classNumber}
 use Rattle.layout.specs.Words.{entries, theta, qn, qd, buckets, start, end}
 use Rattle.layout.specs.Decoded.{bucketAt, classAt, bucketletStart}
+use Rattle.layout.proofs.EntryLaws.{bucketlet-end}
 use Rattle.fit.specs.Accepted.{qualityOf}
 use Rattle.estimate.specs.declared.Fraction.{Fraction}
 use Rattle.estimate.specs.Fraction.{rounded}
@@ -20,7 +21,6 @@ use Rattle.estimate.specs.Exact.{inside, bucketletPiece, bucketPiece, exact}
 use Rattle.estimate.proofs.FractionLaws.{numerator, rounded-whole, sum-whole}
 use Rattle.estimate.proofs.ExactLaws.{bucket-whole, bucket-parts}
 use Rattle.estimate.proofs.CutLaws.{cuts, cuts-none}
-use Rattle.estimate.proofs.SpanLaws.{bucketlet-end}
 use Rattle.accuracy.specs.Claims.{CutsNone}
 use Rattle.accuracy.proofs.Parts.{Factor, factor-sure}
 use Rattle.accuracy.proofs.Split.{split-more}

@@ -19,13 +19,14 @@ use Rattle.layout.specs.Words.{buckets, start, end}
 use Rattle.layout.specs.Decoded.{bucketAt, classAt, bucketletStart}
 use Rattle.layout.specs.Reading.{Readable}
 use Rattle.layout.proofs.Proved.{histogram}
+use Rattle.layout.proofs.EntryLaws.{bucketlet-end}
 use Rattle.estimate.specs.declared.Fraction.{Fraction}
 use Rattle.estimate.specs.Fraction.{number, nothing, plus, sumOf}
 use Rattle.estimate.specs.Exact.{inside, overlap, piece, bucketletPiece, bucketPiece, exact}
 use Rattle.estimate.proofs.FractionLaws.{sum-none}
 use Rattle.estimate.proofs.ExactLaws.{piece-none, bucket-whole, bucket-parts}
 use Rattle.estimate.proofs.CutLaws.{rises}
-use Rattle.estimate.proofs.SpanLaws.{bucketlet-end, bucketlets-rise, first-bucketlet, last-bucketlet, edge, edges-rise, edge-last, bucketlets-hold, buckets-hold}
+use Rattle.estimate.proofs.SpanLaws.{bucketlets-rise, first-bucketlet, last-bucketlet, edge, edges-rise, edge-last, bucketlets-hold, buckets-hold}
 use Rattle.estimate.proofs.SizeLaws.{Sized, sized-joined, bucketlet-sized, total-sized, class-small}
 use Rattle.asking.specs.Private.Adding.{Small, ClassIn}
 use Rattle.asking.proofs.AskLaws.{small-of}

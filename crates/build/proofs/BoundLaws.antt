@@ -5,16 +5,17 @@ use mathlib.Core.Bool.{Bool, true, false, cond}
 use mathlib.Core.List.{List}
 use mathlib.Core.Logic.{⊎-elim}
 use Prim.Native.Nat.{ℕ, suc, _+_, _-_, _*_, _≤_, _<_, max}
-use native.Mathlib.Nat.{le-trans, mul-le-mul, eq-or-lt-of-le}
+use native.Mathlib.Nat.{mul-le-mul, eq-or-lt-of-le}
 use native.Mathlib.Omega.{arith}
 use borrow.Author.Tests.{ltb-true, ltb-false}
 use lib.Dec.{ltb}
 use Rattle.laws.specs.Private.Greatest.{Greatest}
 use Rattle.laws.specs.Sums.{partSum}
-use Rattle.laws.proofs.SumsLaws.{part-le, part-add}
+use Rattle.laws.proofs.SumsLaws.{part-add}
 use Rattle.coding.specs.Base.{limit}
 use Rattle.layout.specs.Limits.{maxQ, maxWidth}
 use Rattle.fit.specs.declared.Quality.{Quality}
+use Rattle.histogram.proofs.WidthLaws.{count-small}
 use Rattle.build.specs.declared.growth.Fraction.{Fraction}
 use Rattle.build.specs.declared.growth.Bounds.{Bounds}
 use Rattle.build.specs.Private.Growing.{fraction, greater, counted, Seen, rangeCount, rangeLength, rangeCap, HeavySeen, Bounding}
@@ -36,13 +37,10 @@ module _ (q : Quality) (fs : List ℕ) (a : ℕ) (sound : Sound fs q) where
   bounding-none =
       record { kept = kept-none q fs a; low-top = omega arith; low-bottom = omega arith; up-top = omega arith; up-bottom = omega arith }
 
-  -- a count is within the limit, and its cap is small and not 0
-  pub count-small : (i n : ℕ) → partSum i n fs ≤ limit
-  count-small i n = le-trans (part-le i n fs) (sound .total)
-
+  -- a cap is small and not 0
   cap-small : (i n : ℕ) → rangeCap q fs a i n ≤ maxQ * limit
   cap-small i n =
-      omega (arith, mul-le-mul (sound .qd-small) (sound .theta-small), mul-le-mul (sound .qn-small) (count-small (a + i) n))
+      omega (arith, mul-le-mul (sound .qd-small) (sound .theta-small), mul-le-mul (sound .qn-small) (count-small q fs sound (a + i) n))
 
   cap-pos : (i n : ℕ) → 0 < rangeCap q fs a i n
   cap-pos i n = omega (arith, mul-le-mul (sound .qd-some) (sound .theta-some))
@@ -72,7 +70,7 @@ module _ (q : Quality) (fs : List ℕ) (a : ℕ) (sound : Sound fs q) where
         heavier h true e =
             record {
               greatest = lower-greater q fs a w i in-row (p .top) (p .bottom) h (l .greatest) (omega (arith, ltb-true (p .top * n) (f * p .bottom) e));
-              top = count-small (a + i) n;
+              top = count-small q fs sound (a + i) n;
               bottom = omega arith;
             }
         heavier h false e =

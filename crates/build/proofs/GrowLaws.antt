@@ -11,23 +11,24 @@ use lib.ListN.{length}
 use Rattle.laws.specs.Sums.{partSum}
 use Rattle.laws.proofs.Tests.{both, both-left, both-right, same-test}
 use Rattle.laws.proofs.SearchLaws.{largest-unique}
+use Rattle.coding.specs.Class.{classValue}
 use Rattle.fit.specs.declared.Quality.{Quality}
 use Rattle.fit.proofs.FitLaws.{says-near}
 use Rattle.histogram.specs.Private.Sound.{Sound}
-use Rattle.histogram.specs.Width.{valueOf, fitsAt, width}
+use Rattle.histogram.specs.Width.{fitsAt, width}
 use Rattle.histogram.proofs.WidthLaws.{count-some, count-small, value-near}
 use Rattle.build.specs.declared.growth.Bounds.{Bounds}
 use Rattle.build.specs.Private.Growing.{Bounding, passes}
 use Rattle.build.proofs.GrowthLaws.{fits-tests, tests-fit}
 
 module _ (q : Quality) (fs : List ℕ) (a : ℕ) (sound : Sound fs q) where
-  pub test-fits : (w s : ℕ) (b : Bounds) → 1 ≤ w → a + w ≤ length fs → s ≡ valueOf (partSum a w fs) → Bounding q fs a w 0 b
+  pub test-fits : (w s : ℕ) (b : Bounds) → 1 ≤ w → a + w ≤ length fs → s ≡ classValue (partSum a w fs) → Bounding q fs a w 0 b
       → passes q b s w ≡ fitsAt q fs a w
   unfolding fitsAt
   test-fits w s b h l e k = rw e (same-test (passes q b v w) (fitsAt q fs a w) there back)
     where
       v : ℕ
-      v = valueOf (partSum a w fs)
+      v = classValue (partSum a w fs)
 
       above : q .qd ≤ q .qn
       above = omega (arith, sound .factor)

@@ -8,7 +8,8 @@ ghost use mathlib.Core.Bool.{cond, _&&_};
 ghost use Prim.Native.Nat.{suc, _-_, _*_, _^_, _≤_, _<_, max};
 ghost use lib.Dec.{ltb};
 ghost use Rattle.coding.specs.Base.{limit};
-ghost use Rattle.histogram.specs.Width.{valueOf, width};
+ghost use Rattle.coding.specs.Class.{classValue};
+ghost use Rattle.histogram.specs.Width.{width};
 ghost use Rattle.build.specs.Private.Growing.{Growable, Widenable, Bounding, Testable, greater, counted, passes};
 
 pub(crate) struct Fraction {
@@ -76,7 +77,7 @@ fn splits(base: u64, theta: u64, count: u64) -> bool
 // The number that stands for a count.
 fn value_of(count: u64) -> u64
     requires { ⌜ (1 ≤ count) × (count ≤ limit) ⌝ }
-    ensures { λ r. ⌜ r ≡ valueOf count ⌝ }
+    ensures { λ r. ⌜ r ≡ classValue count ⌝ }
 {
     let Coded::Code(class) = counts::class_of(count as u32) else {
         return 0;

@@ -5,12 +5,8 @@ use mathlib.Core.Bool.{true}
 use Prim.Native.Nat.{ℕ, _+_, _-_, _*_, _^_, _≤_, _<_}
 use Rattle.laws.specs.Search.{Root}
 use Rattle.coding.specs.Base.{base, limit, usedClass}
-use Rattle.coding.specs.Class.{Class, classOf, classStart, classNumber}
+use Rattle.coding.specs.Class.{Class, classOf, classStart, classNumber, classValue}
 use Rattle.coding.specs.Total.{highestBit, totalCode, totalNumber, middle, validCode}
-
--- the number that stands for a count
-abbrev pub classValue : ℕ → ℕ
-classValue v = classNumber base (classOf base v)
 
 abbrev pub totalValue : ℕ → ℕ
 totalValue t = totalNumber (totalCode t)

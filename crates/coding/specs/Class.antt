@@ -4,7 +4,7 @@ use mathlib.Core.Bool.{Bool, not, _&&_}
 use Prim.Native.Nat.{ℕ, zero, suc, _-_, _*_, _^_, _≤_, _<_}
 use lib.Dec.{leb}
 use Rattle.laws.specs.Search.{first, root}
-use Rattle.coding.specs.Base.{Base}
+use Rattle.coding.specs.Base.{Base, base}
 
 -- base^k <= v
 abbrev pub reaches : Base → ℕ → ℕ → Bool
@@ -26,6 +26,10 @@ classStart b c = first (λ v. reaches b (c - 1) v) (b .num ^ c) 0
 unfoldable pub classNumber : Base → ℕ → ℕ
 classNumber b zero = 0
 classNumber b (suc c) = root (b .num ^ (2 * suc c - 1)) (b .den ^ (2 * suc c - 1))
+
+-- the number that stands for a count
+abbrev pub classValue : ℕ → ℕ
+classValue v = classNumber base (classOf base v)
 
 -- the rule of the classes as a statement: c is a class of v
 pub record Class (b : Base) (v c : ℕ) : Type 0 where

@@ -18,13 +18,14 @@ use Rattle.layout.specs.Words.{buckets, start, end}
 use Rattle.layout.specs.Decoded.{bucketAt, classAt, bucketletStart, bucketletEnd}
 use Rattle.layout.specs.Reading.{Readable}
 use Rattle.layout.proofs.Proved.{histogram}
+use Rattle.layout.proofs.EntryLaws.{bucketlet-end}
 use Rattle.coding.proofs.Shown.{classes, totals}
 use Rattle.estimate.specs.declared.Fraction.{Fraction}
 use Rattle.estimate.specs.Fraction.{number, quotient, plus}
 use Rattle.estimate.specs.Exact.{inside, overlap, piece, bucketletPiece}
 use Rattle.estimate.proofs.ExactLaws.{piece-none, piece-whole, piece-cut}
 use Rattle.estimate.proofs.CutLaws.{cuts, cuts-join, cut-some}
-use Rattle.estimate.proofs.SpanLaws.{Joined, bucketlet-end}
+use Rattle.estimate.proofs.SpanLaws.{Joined}
 
 -- of a span from a to e, with as many cuts, and what it gives
 pub record Sized (x y a e : ℕ) (s : Fraction) : Type 0 where

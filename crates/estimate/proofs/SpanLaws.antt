@@ -27,9 +27,6 @@ use Rattle.estimate.proofs.CutLaws.{rises}
 
 -- bucketlets follow one another, from the start of their bucket to its end
 
-pub bucketlet-end : (r : Bucket) (j : ℕ) → bucketletEnd r j ≡ bucketletStart r j + getD (r .widths) j 0
-bucketlet-end r j = omega (arith, prefix-suc j (r .widths))
-
 pub bucketlets-rise : (r : Bucket) (j : ℕ) → bucketletStart r j ≤ bucketletStart r (suc j)
 bucketlets-rise r j = omega (arith, prefix-suc j (r .widths))
 

@@ -16,7 +16,6 @@ use Rattle.laws.specs.Field.{put}
 use Rattle.laws.specs.Sums.{sum}
 use Rattle.laws.proofs.Tests.{neither, not-fails}
 use Rattle.laws.proofs.EachLaws.{some-none}
-use Rattle.laws.proofs.SumsLaws.{sum-append}
 use Rattle.coding.specs.Total.{validCode}
 use Rattle.layout.specs.declared.Bucket.{Bucket}
 use Rattle.layout.specs.Limits.{maxWidth}
@@ -24,7 +23,7 @@ use Rattle.layout.specs.Words.{place, entries, theta, qn, qd, buckets, headOf, 
 use Rattle.layout.specs.Decoded.{withFree, decode, encode, bucketAt}
 use Rattle.layout.specs.Reading.{headGood, lengthFault, wordsBroken, wordFault, widthFault, classBroken, codesBroken, codeFault, Readable}
 use Rattle.layout.specs.Claims.{InRange}
-use Rattle.layout.proofs.DecodedLaws.{decode-encode, encoded}
+use Rattle.layout.proofs.DecodedLaws.{sum-with-free, decode-encode, encoded}
 use Rattle.layout.proofs.HeadLaws.{is-within, is-good-q, by-buckets, no-head-fault}
 use Rattle.layout.proofs.StartLaws.{Starts, end-next, end-last, no-start-fault}
 use Rattle.layout.proofs.CodeLaws.{Room, no-width-fault, no-class-fault}
@@ -46,12 +45,7 @@ unfolding startFrom
 start-next q fs end a zero = refl
 start-next q fs end a (suc k) = start-next q fs end (a + sum (bucketWidths q fs end a)) k
 
--- the widths of a bucket are the free one and the listed ones
-free-sum : (flag : Bool) (free : ℕ) (listed : List ℕ) → sum (withFree flag free listed) ≡ free + sum listed
-free-sum true free listed = sum-append listed (free ∷ []) ∙ (omega arith)
-free-sum false free listed = refl
-
--- and it is one of the eight
+-- the free width is one of the eight
 free-narrow : (flag : Bool) (free : ℕ) (listed widths : List ℕ) → length listed ≡ 7 → withFree flag free listed ≡ widths
     → ((k : ℕ) → k < 8 → getD widths k 0 ≤ maxWidth) → free ≤ maxWidth
 free-narrow true free listed widths n e f =
@@ -175,7 +169,7 @@ module _ (q : Quality) (fs : List ℕ) (sound : Sound fs q) where
       let e : withFree (flagIn five) free (listedIn five) ≡ widths = ap (λ (r : Bucket). r .widths) (decoded-words b h) in
       room-of (span ws b) (sum (listedIn (fiveWords ws b))) (sum widths) (sum (listedIn five)) free a (startIn five)
       (span-is b h) (ap (λ (f : List ℕ). sum (listedIn f)) (five-are b h)) (start-in b h) refl
-      (sym (ap sum e) ∙ free-sum (flagIn five) free (listedIn five))
+      (sym (ap sum e) ∙ sum-with-free (flagIn five) free (listedIn five))
       (free-narrow (flagIn five) free (listedIn five) widths refl e (λ k g. width-narrow q fs d a k g))
 
   codes-good : (b : ℕ) → b < count → codesBroken (bucketAt ws b) ≡ false

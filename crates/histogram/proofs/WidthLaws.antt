@@ -17,16 +17,16 @@ use Rattle.laws.proofs.SearchLaws as Search
 use Rattle.laws.proofs.SearchLaws.{largest-is}
 use Rattle.laws.proofs.SumsLaws.{part-le, part-cons}
 use Rattle.coding.specs.Base.{base, limit}
-use Rattle.coding.specs.Class.{classOf}
+use Rattle.coding.specs.Class.{classOf, classValue}
 use Rattle.coding.proofs.BaseLaws.{class-used, close, count-close}
 use Rattle.fit.specs.declared.Quality.{Quality}
 use Rattle.fit.specs.Fit.{near, fits, rangesFit, bucketletFits}
 use Rattle.fit.proofs.FitLaws.{Near, says-near, near-fits, small-fits}
 use Rattle.histogram.specs.Private.Sound.{Sound}
-use Rattle.histogram.specs.Width.{valueOf, fitsAt, width}
+use Rattle.histogram.specs.Width.{fitsAt, width}
 use Rattle.histogram.specs.Claims.{Largest}
 
-pub value-small : (v : ℕ) → 1 ≤ v → v ≤ limit → valueOf v < 2 ^ 31
+pub value-small : (v : ℕ) → 1 ≤ v → v ≤ limit → classValue v < 2 ^ 31
 value-small v h l = close (classOf base v) (class-used v h l) .small
 
 module _ (q : Quality) (fs : List ℕ) (sound : Sound fs q) where
@@ -38,10 +38,10 @@ module _ (q : Quality) (fs : List ℕ) (sound : Sound fs q) where
   count-some a (suc w) h l = omega (arith, part-cons a w fs, sound .positive a (omega arith))
 
   -- a count and its number are within q, since q is at least 5/4
-  pub value-near : (v w : ℕ) → 1 ≤ v → v ≤ limit → Near q v (w * valueOf v) w
+  pub value-near : (v w : ℕ) → 1 ≤ v → v ≤ limit → Near q v (w * classValue v) w
   value-near v w h l =
       let c = count-close v h l in
-      let s = valueOf v in
+      let s = classValue v in
       let over : 4 * (q .qd * v) ≤ 4 * (q .qn * s) = omega (arith, mul-le-mul-left (q .qd) (c .count), mul-le-mul-right s (sound .factor)) in
       let under : 4 * (q .qd * s) ≤ 4 * (q .qn * v) = omega (arith, mul-le-mul-left (q .qd) (c .number), mul-le-mul-right v (sound .factor)) in
       let over' : q .qd * v ≤ q .qn * s = omega arith in
@@ -52,14 +52,14 @@ module _ (q : Quality) (fs : List ℕ) (sound : Sound fs q) where
   pub one-fits : (a : ℕ) → a < length fs → fitsAt q fs a 1 ≡ true
   unfolding fitsAt bucketletFits rangesFit
   one-fits a h =
-      let s = valueOf (partSum a 1 fs) in
+      let s = classValue (partSum a 1 fs) in
       let n = value-near (partSum a 1 fs) 1 (count-some a 1 (omega arith) (omega arith)) (count-small a 1) in
       both (near q (partSum a 1 fs) (1 * s) 1) _ (says-near q (partSum a 1 fs) (1 * s) 1 n)
       (each-all 2 (λ i. each (suc (1 - i)) (λ n. fits q (partSum (a + i) n fs) (n * s) 1))
       (λ i l. each-all (suc (1 - i)) (λ n. fits q (partSum (a + i) n fs) (n * s) 1) (λ k g. range n i k (omega arith))))
     where
       s : ℕ
-      s = valueOf (partSum a 1 fs)
+      s = classValue (partSum a 1 fs)
 
       range : Near q (partSum a 1 fs) (1 * s) 1 → (i k : ℕ) → i + k ≤ 1 → fits q (partSum (a + i) k fs) (k * s) 1 ≡ true
       range n i zero l = small-fits q (partSum (a + i) 0 fs) (0 * s) 1 (record { count = omega arith; estimate = omega arith })

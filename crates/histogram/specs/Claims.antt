@@ -69,7 +69,7 @@ pub record Built (fs : List ℕ) (theta qn qd : ℕ) : Type 0 where
   pub head-theta : thetaIn (words (quality theta qn qd) fs) ≡ theta
   pub head-qn : qnIn (words (quality theta qn qd) fs) ≡ qn
   pub head-qd : qdIn (words (quality theta qn qd) fs) ≡ qd
-  -- what is read of the others are the buckets of the definition
+  -- the buckets of the definition are read of the other words
   pub decoded : (b : ℕ) → b < buckets (words (quality theta qn qd) fs)
       → bucketAt (words (quality theta qn qd) fs) b ≡ bucketFrom (quality theta qn qd) fs (length fs) (startFrom (quality theta qn qd) fs (length fs) 0 b)
   -- each of its bucketlets as wide as its rule allows

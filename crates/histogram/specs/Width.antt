@@ -5,18 +5,13 @@ use mathlib.Core.List.{List}
 use Prim.Native.Nat.{ℕ}
 use Rattle.laws.specs.Search.{largest}
 use Rattle.laws.specs.Sums.{partSum}
-use Rattle.coding.specs.Base.{base}
-use Rattle.coding.specs.Class.{classOf, classNumber}
+use Rattle.coding.specs.Class.{classValue}
 use Rattle.fit.specs.declared.Quality.{Quality}
 use Rattle.fit.specs.Fit.{bucketletFits}
 
--- the number that stands for a count
-abbrev pub valueOf : ℕ → ℕ
-valueOf v = classNumber base (classOf base v)
-
 -- the bucketlet of width w at entry a fits, its class being that of its own true count
 unfoldable pub fitsAt : Quality → List ℕ → ℕ → ℕ → Bool
-fitsAt q fs a w = bucketletFits q fs a w (valueOf (partSum a w fs))
+fitsAt q fs a w = bucketletFits q fs a w (classValue (partSum a w fs))
 
 -- the largest w, at most the limit, such that it fits with each width 1 to w (claim width-largest)
 unfoldable pub width : Quality → List ℕ → ℕ → ℕ → ℕ

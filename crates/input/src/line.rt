@@ -9,7 +9,7 @@ ghost use Rattle.exam.specs.Input.{digit};
 ghost use Rattle.input.specs.Private.Lines.{LineAt};
 
 // Its number and where the next line starts, or that it is no number or is not ended.
-pub enum Line {
+pub(crate) enum Line {
     Number(u32, usize),
     Broken,
 }
@@ -37,7 +37,7 @@ fn with_digit(value: u64, c: u8) -> u64
 }
 
 // A line is read digit by digit, and is broken at the first byte with which it can be no number any more.
-pub fn line_at(input: &[u8], start: usize) -> Line
+pub(crate) fn line_at(input: &[u8], start: usize) -> Line
     requires { ⌜ start < length (now input) ⌝ }
     ensures { λ r. ⌜ LineAt (now (input .entry)) start r ⌝ }
 {

@@ -1,4 +1,4 @@
--- Laws of the greatest of a set of fractions (specs/Greatest.antt): a member more, and members that are at most a mediant of two others.
+-- Laws of the greatest of a set of fractions (specs/Private/Greatest.antt): a member more, and members that are at most a mediant of two others.
 -- Assumes nothing.
 use mathlib.Core.Path.{_≡_}
 use mathlib.Core.Logic.{_⊎_, ⊎-elim}

@@ -54,7 +54,7 @@ listed-beside : (f : Bool) (free k : ℕ) (l : List ℕ) → k < length l → ge
 listed-beside true free k l h = List·getD-append l (free ∷ []) 0 k h
 listed-beside false free k l h = refl
 
-sum-with-free : (f : Bool) (free : ℕ) (l : List ℕ) → sum (withFree f free l) ≡ free + sum l
+pub sum-with-free : (f : Bool) (free : ℕ) (l : List ℕ) → sum (withFree f free l) ≡ free + sum l
 sum-with-free true free l = sum-append l (free ∷ []) ∙ (omega arith)
 sum-with-free false free l = refl
 

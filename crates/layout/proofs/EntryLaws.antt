@@ -28,6 +28,10 @@ use Rattle.layout.proofs.DecodedLaws.{by-elements}
 use Rattle.layout.proofs.StartLaws.{tiles, starts-mono, end-next}
 use Rattle.layout.proofs.ReadingLaws.{NoFault, no-fault, limits, starts-in, holds}
 
+-- a bucketlet ends after its width
+pub bucketlet-end : (r : Bucket) (k : ℕ) → bucketletEnd r k ≡ bucketletStart r k + getD (r .widths) k 0
+bucketlet-end r k = omega (arith, prefix-suc k (r .widths))
+
 module _ (ws : List ℕ) (f : NoFault ws) where
   pub has-bucket : (e : ℕ) → e < entries ws → InBucket ws e (bucketOf ws e)
   unfolding bucketOf

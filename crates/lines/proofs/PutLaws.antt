@@ -11,7 +11,6 @@ use Rattle.laws.specs.Padded.{zeros, padded}
 use Rattle.laws.proofs.PaddedLaws.{drop-zeros}
 use Rattle.exam.specs.Text.{digitByte, digits}
 use Rattle.exam.proofs.TextLaws.{digits-length}
-use Rattle.lines.specs.declared.Line.{Line}
 use Rattle.lines.specs.Line.{lineOf}
 
 pub sets-append : (l : List ℕ) (i : ℕ) (xs ys : List ℕ) → sets l i (xs ++ ys) ≡ sets (sets l i xs) (i + length xs) ys

@@ -16,7 +16,6 @@ use Rattle.laws.specs.Reply.{Reply, answered, refused}
 use Rattle.laws.proofs.Tests.{tested}
 use Rattle.laws.proofs.PaddedLaws.{padded-front}
 use Rattle.laws.proofs.RefusalLaws.{numbered, append-refused, append-passed}
-use Rattle.layout.specs.Words.{buckets}
 use Rattle.layout.proofs.Proved.{histogram}
 use Rattle.histogram.specs.Words.{words}
 use Rattle.histogram.specs.Building.{quality, inputs, building, buildFault, buildReply, written}

@@ -6,7 +6,6 @@ use Prim.Native.Nat.{ℕ, suc, _+_, _*_, _≤_, _<_}
 use native.Mathlib.Omega.{arith}
 use lib.ListN.{length, getD, take, length-append}
 use lib.Seq.{sets}
-use Rattle.laws.proofs.SumsLaws.{prefix-suc}
 use Rattle.laws.proofs.PaddedLaws.{padded-front}
 use Rattle.coding.specs.Base.{base}
 use Rattle.coding.specs.Class.{classNumber}
@@ -15,6 +14,7 @@ use Rattle.layout.specs.declared.Bucket.{Bucket}
 use Rattle.layout.specs.declared.Head.{Head}
 use Rattle.layout.specs.Words.{entries, theta, qn, qd, buckets, headOf, start, end}
 use Rattle.layout.specs.Decoded.{bucketAt, classAt, bucketletStart, bucketletEnd}
+use Rattle.layout.proofs.EntryLaws.{bucketlet-end}
 use Rattle.exam.specs.Lines.{headLine, bucketLine, bucketletLine, refusedLine}
 use Rattle.exam.specs.Sheet.{joined, bucketletPart, bucketPart, histogramSheet}
 use Rattle.exam.specs.Private.Room.{Roomy, Printable}
@@ -59,14 +59,11 @@ refused-room l number e h =
 
 -- ---- bucketlets
 
-pub next-start : (r : Bucket) (k : ℕ) → bucketletEnd r k ≡ bucketletStart r k + getD (r .widths) k 0
-next-start r k = omega (arith, prefix-suc k (r .widths))
-
 -- the line of a bucketlet, by the numbers in hand
 pub part-line : (r : Bucket) (k start end class number : ℕ) → 0 < getD (r .widths) k 0 → start ≡ bucketletStart r k → end ≡ start + getD (r .widths) k 0
     → class ≡ classAt r k → number ≡ classNumber base (classAt r k) → bucketletLine start end class number ≡ bucketletPart r k
 part-line r k start end class number h s e c n =
-    let next : end ≡ bucketletEnd r k = omega (arith, s, e, next-start r k) in
+    let next : end ≡ bucketletEnd r k = omega (arith, s, e, bucketlet-end r k) in
     ap (λ (x : ℕ). bucketletLine x end class number) s
     ∙ ap (λ (x : ℕ). bucketletLine (bucketletStart r k) x class number) next
     ∙ ap (λ (x : ℕ). bucketletLine (bucketletStart r k) (bucketletEnd r k) x number) c
@@ -87,7 +84,7 @@ pub some-more : (r : Bucket) (old out next : List ℕ) (from at end start k : �
     → Some r old next from end (start + getD (r .widths) k 0) (suc k)
 unfolding joined
 some-more r old out next from at end start k h s p =
-    record { up-to = h; begins = omega (arith, s .begins, next-start r k); done = put-both (s .done) p }
+    record { up-to = h; begins = omega (arith, s .begins, bucketlet-end r k); done = put-both (s .done) p }
 
 pub some-room : (r : Bucket) (old out : List ℕ) (from at start k : ℕ) → Printable r → k < 8 → Some r old out from at start k → at ≤ from + k * 35
 some-room r old out from at start k p h s =

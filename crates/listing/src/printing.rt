@@ -12,7 +12,7 @@ ghost use Rattle.exam.specs.Sheet.{joined, bucketletPart, bucketPart, histogram
 ghost use Rattle.exam.specs.Private.Room.{Roomy, Printable};
 ghost use Rattle.listing.specs.Private.Printing.{room, Put};
 
-pub fn put(line: Line, out: &mut [u8; 163840], at: usize) -> usize
+pub(crate) fn put(line: Line, out: &mut [u8; 163840], at: usize) -> usize
     requires { ⌜ (line .length ≤ 80) × (at + line .length ≤ room) ⌝ }
     ensures { λ r. ⌜ Put (now (out .entry)) (now (out .exit)) at r (take (line .length) (line .bytes)) ⌝ }
 {
@@ -79,7 +79,7 @@ fn put_bucket(words: &[u32], b: usize, out: &mut [u8; 163840], at: usize) -> usi
 }
 
 // The head and all buckets.
-pub fn put_histogram(words: &[u32], out: &mut [u8; 163840]) -> usize
+pub(crate) fn put_histogram(words: &[u32], out: &mut [u8; 163840]) -> usize
     requires { ⌜ Roomy (now words) ⌝ }
     ensures { λ r. ⌜ Put (now (out .entry)) (now (out .exit)) 0 r (histogramSheet (now (words .entry))) ⌝ }
 {

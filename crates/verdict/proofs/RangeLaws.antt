@@ -17,7 +17,6 @@ use Rattle.fit.specs.Fit.{near, fits, rangesFit, bucketletFits}
 use Rattle.fit.proofs.FitLaws.{near-says, near-fits, small-fits}
 use Rattle.verdict.specs.declared.Failing.{Failing}
 use Rattle.verdict.specs.declared.Verdict.the-variants.{Accepted, Fails}
-use Rattle.verdict.specs.Reply.{verdictReply}
 use Rattle.verdict.specs.Failing.{countGood, rangeGood, sortOf, rangeVerdict, startVerdict, bucketletVerdict}
 use Rattle.verdict.specs.Claims.{FirstRange}
 use Rattle.verdict.proofs.FirstLaws.{Unrefused, all-accepted, accepted-all, first-at, first-unrefused}

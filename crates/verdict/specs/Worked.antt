@@ -5,17 +5,10 @@ use mathlib.Core.Bool.{true, false}
 use mathlib.Core.List.{List, [], _∷_, _++_}
 use Prim.Native.Nat.{ℕ, _+_, _*_, _^_}
 use lib.ListN.{set}
+use Rattle.layout.specs.Examples.{tens, gaps}
 use Rattle.layout.specs.Decoded.{startWord, classWord, totalWord, widthWord}
 use Rattle.verdict.specs.Reply.{acceptedAnswer, refusedAnswer, failedAnswer}
 use Rattle.verdict.specs.Checking.{checkReply}
-
--- 10, 10, 10, 10, theta 1, q 3/2
-abbrev pub tens : List ℕ
-tens = 4 ∷ 1 ∷ 0xC02 ∷ 1 ∷ 0x40000204 ∷ 0x8B000000 ∷ 0x80000500 ∷ 0xC0000000 ∷ 0xC0000000 ∷ []
-
--- empty bucketlets before, between and after others: widths 0, 2, 0, 0, 1, 0, 3, 0
-abbrev pub gaps : List ℕ
-gaps = 6 ∷ 1 ∷ 0x801 ∷ 1 ∷ 0x40000002 ∷ 0x80200005 ∷ 0x80240420 ∷ 0xC0000001 ∷ 0xC0000600 ∷ []
 
 abbrev pub heads : ℕ → ℕ → ℕ → ℕ → ℕ → List ℕ
 heads d theta qn qd buckets = d ∷ theta ∷ (qn * 2 ^ 10 + qd) ∷ buckets ∷ []

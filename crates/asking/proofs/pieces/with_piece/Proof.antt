@@ -12,43 +12,30 @@ use Rattle.estimate.proofs.ExactLaws.{piece-none}
 use Rattle.asking.specs.Private.Adding.{Small}
 use Rattle.asking.proofs.pieces.with_piece.Statement.{statement}
 use Rattle.asking.proofs.pieces.with_piece.Tie as tie
-use Rattle.asking.proofs.pieces.with_piece.Reads as reads
-use Rattle.asking.proofs.pieces.with_piece.Lts as lts
-use Rattle.asking.proofs.pieces.class_number.Reads as class-number-reads
-use Rattle.asking.proofs.pieces.overlap_of.Reads as overlap-of-reads
-use Rattle.asking.proofs.pieces.piece_of.Reads as piece-of-reads
-use Rattle.asking.proofs.pieces.plus.Reads as plus-reads
 
--- src/pieces.rt:115:28
 add-overlap-of : tie.Need-add-overlap-of
 add-overlap-of c = search needs
 
--- src/pieces.rt:115:8
 overlap-of-requires : tie.Need-overlap-of-requires
 overlap-of-requires c κs = search needs
 
--- src/pieces.rt:116:9
 returns : tie.Need-returns
 returns c =
     let a = c .before .before .args in
     sym (ap (plus (a .sum)) (piece-none (a .x) (a .y) (a .a) (a .w) (classNumber base (a .class)) (omega (arith, c .before .overlap-of .ensures))) ∙ plus-nothing (a .sum))
 
--- src/pieces.rt:118:36
 class-number-requires : tie.Need-class-number-requires
 class-number-requires c κs = search needs
 
--- src/pieces.rt:118:15
 piece-of-requires : tie.Need-piece-of-requires
 piece-of-requires c κs = search needs
 
--- src/pieces.rt:118:5
 plus-requires : tie.Need-plus-requires
 plus-requires c κs =
     let s = c .before .before .before .before in
     let same = c .piece-of .ensures ∙ ap (piece (s .args .x) (s .args .y) (s .args .a) (s .args .w)) (c .before .class-number .ensures) in
     subst⁻¹ (λ (t : Fraction). Small (plus (s .args .sum) t)) same (s .pre .small)
 
--- src/pieces.rt:111:1
 returns-2 : tie.Need-returns-2
 returns-2 c =
     let a = c .before .before .before .before .before .args in

@@ -12,8 +12,9 @@ use borrow.Author.Tests.{not-true, not-false}
 use Rattle.laws.specs.Sums.{partSum}
 use Rattle.laws.proofs.SumsLaws.{part-suc}
 use Rattle.coding.specs.Base.{limit}
+use Rattle.coding.specs.Class.{classValue}
 use Rattle.fit.specs.declared.Quality.{Quality}
-use Rattle.histogram.specs.Width.{valueOf, fitsAt}
+use Rattle.histogram.specs.Width.{fitsAt}
 use Rattle.histogram.proofs.WidthLaws.{value-small, count-some, count-small}
 use Rattle.build.specs.declared.growth.Bounds.{Bounds}
 use Rattle.build.specs.Private.Growing.{Bounding, passes}
@@ -115,7 +116,7 @@ tested : (c : tie.After-passes Inv-loop μ-loop) → let s = c .before .before .
 tested c =
     let s = c .before .before .before .before .before .before .before .before in
     let w = c .before .before .before .before .before .before .loop .w in
-    let e = c .before .value-of .ensures ∙ ap valueOf (total (c .before .before .before)) in
+    let e = c .before .value-of .ensures ∙ ap classValue (total (c .before .before .before)) in
     let p = test-fits (s .args .q) (s .args .freqs .now) (s .args .a) (s .pre .sound) (suc w) (c .before .value-of .result) (c .before .before .widened .result) (omega arith) (omega (arith, s .pre .inside)) e (c .before .before .widened .ensures) in
     c .passes .ensures ∙ ap (passes (s .args .q) (c .before .before .widened .result) (c .before .value-of .result)) (add-one w) ∙ p
 

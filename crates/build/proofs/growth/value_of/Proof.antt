@@ -4,12 +4,11 @@ use mathlib.Core.Path.{_≡_, sym, ap, _∙_}
 use native.Mathlib.Omega.{arith}
 use borrow.Author.Needs.{needs}
 use Rattle.coding.specs.Base.{base, usedClass}
-use Rattle.coding.specs.Class.{classNumber}
+use Rattle.coding.specs.Class.{classNumber, classValue}
 use Rattle.coding.proofs.BaseLaws.{class-used}
 use Rattle.counts.specs.declared.Meaning.{Meaning}
 use Rattle.counts.specs.Reply.{codedReply, meaningReply}
 use Rattle.counts.proofs.CallLaws.{class-coded, class-read}
-use Rattle.histogram.specs.Width.{valueOf}
 use Rattle.build.proofs.growth.value_of.Statement.{statement}
 use Rattle.build.proofs.growth.value_of.Tie as tie
 
@@ -33,7 +32,7 @@ returns c =
 -- the reply of the second call
 number-reply : (c : tie.After-number-of-class)
     → let r = meaningReply (c .number-of-class .result) in
-    (r .refusal ≡ 0) × (r .value ≡ valueOf (c .before .before .before .before .before .args .count))
+    (r .refusal ≡ 0) × (r .value ≡ classValue (c .before .before .before .before .before .args .count))
 number-reply c =
     let told = c .before .before .class .given in
     let v = c .before .before .before .before .before .args .count in

@@ -17,9 +17,10 @@ use Rattle.laws.proofs.SumsLaws.{part-cons}
 use Rattle.coding.specs.Base.{limit}
 use Rattle.layout.specs.Limits.{maxQ}
 use Rattle.fit.specs.declared.Quality.{Quality}
+use Rattle.histogram.proofs.WidthLaws.{count-small}
 use Rattle.build.specs.declared.growth.Fraction.{Fraction}
 use Rattle.build.specs.Private.Growing.{rangeCount, Bounding}
-use Rattle.build.proofs.BoundLaws.{Base, bounds, base-none, base-step, base-le, count-small, bounding-row, bounding-step, bounding-split}
+use Rattle.build.proofs.BoundLaws.{Base, bounds, base-none, base-step, base-le, bounding-row, bounding-step, bounding-split}
 use Rattle.build.proofs.growth.widened.Statement.{statement}
 use Rattle.build.proofs.growth.widened.Tie as tie
 
@@ -95,7 +96,7 @@ small : (c : tie.After-wide Inv-loop μ-loop) → c .before .before .before .loo
 small c =
     let s = c .before .before .before .before .before .before .before .before in
     let j = c .before .before .before .loop .i - 1 in
-    omega (arith, counted c, count-small (s .args .q) (s .args .freqs .now) (s .args .a) (s .pre .growable .sound) (s .args .a + j) (suc (s .args .w) - j))
+    omega (arith, counted c, count-small (s .args .q) (s .args .freqs .now) (s .pre .growable .sound) (s .args .a + j) (suc (s .args .w) - j))
 
 add-count : tie.Need-add-count Inv-loop μ-loop
 add-count c = omega (arith, small c)

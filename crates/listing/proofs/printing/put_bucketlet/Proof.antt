@@ -11,9 +11,10 @@ use Rattle.counts.specs.declared.Meaning.{Meaning}
 use Rattle.counts.specs.Reply.{meaningReply}
 use Rattle.counts.proofs.CallLaws.{class-read}
 use Rattle.layout.specs.Decoded.{classAt}
+use Rattle.layout.proofs.EntryLaws.{bucketlet-end}
 use Rattle.exam.proofs.SheetLaws.{empty-part, bucketlet-short}
 use Rattle.listing.specs.Private.Printing.{Put}
-use Rattle.listing.proofs.PrintLaws.{put-nothing, part-line, line-length, put-line, next-start}
+use Rattle.listing.proofs.PrintLaws.{put-nothing, part-line, line-length, put-line}
 use Rattle.listing.proofs.printing.put_bucketlet.Statement.{statement}
 use Rattle.listing.proofs.printing.put_bucketlet.Tie as tie
 
@@ -58,7 +59,7 @@ returns-2 c = absurd (omega (arith, ap (λ (m : Meaning). meaningReply m .refusa
 add-bucketlet-line : tie.Need-add-bucketlet-line
 add-bucketlet-line c =
     let s = c .before .before .before .before .before .before .before in
-    omega (arith, s .pre .2, s .pre .0 .small (suc (s .args .k)) (s .pre .1), next-start (s .args .t1) (s .args .k))
+    omega (arith, s .pre .2, s .pre .0 .small (suc (s .args .k)) (s .pre .1), bucketlet-end (s .args .t1) (s .args .k))
 
 bucketlet-line-requires : tie.Need-bucketlet-line-requires
 bucketlet-line-requires c κs = search needs

@@ -5,8 +5,9 @@ use native.Mathlib.Omega.{arith}
 use borrow.Author.Needs.{needs}
 use lib.ListN.{getD}
 use Rattle.exam.specs.Sheet.{joined, bucketletPart}
+use Rattle.layout.proofs.EntryLaws.{bucketlet-end}
 use Rattle.listing.specs.Private.Printing.{Put}
-use Rattle.listing.proofs.PrintLaws.{Some, none, some-more, some-room, next-start}
+use Rattle.listing.proofs.PrintLaws.{Some, none, some-more, some-room}
 use Rattle.listing.proofs.printing.put_bucketlets.Statement.{statement}
 use Rattle.listing.proofs.printing.put_bucketlets.Tie as tie
 
@@ -36,7 +37,7 @@ add-start : tie.Need-add-start Inv-loop μ-loop
 add-start c =
     let s = c .before .before .before .before .before in
     let l = c .before .before .before .before .loop in
-    omega (arith, l .inv .begins, s .pre .0 .small (suc (l .k)) (omega arith), next-start (s .args .t1) (l .k))
+    omega (arith, l .inv .begins, s .pre .0 .small (suc (l .k)) (omega arith), bucketlet-end (s .args .t1) (l .k))
 
 add-k : tie.Need-add-k Inv-loop μ-loop
 add-k c = search needs
