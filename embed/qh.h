@@ -34,7 +34,7 @@
  *     a list that another thread writes during the call: what happens then is not known;
  *   - a null pointer with length 0. An empty list has length 0 and any pointer that is not null; the tests see that a
  *     null pointer is answered in the same way;
- *   - the order and the types, in this header, of the fields of a struct and of the parameters of a call, which are
+ *   - whether the structs and calls of this header are those of the library: the order of fields and parameters is
  *     tested;
  *   - faults of the compiler, the linker and the machine, and qh_sentence, which is plain C.
  */

@@ -10,7 +10,6 @@ use native.Mathlib.Nat.{le-of-lt}
 use native.Mathlib.Omega.{arith}
 use borrow.Author.Tests.{lt-ltb, le-ltb}
 use lib.Dec.{ltb}
-use lib.ListN.{getD}
 use Rattle.laws.proofs.SumsLaws.{prefix-suc, prefix-all}
 use Rattle.laws.proofs.Tests.{tested}
 use Rattle.coding.specs.Total.{totalNumber}

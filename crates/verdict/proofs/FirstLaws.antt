@@ -52,12 +52,12 @@ unrefused-number (Refused n) u = absurd u
 unrefused-number Accepted u = refl
 unrefused-number (Fails f) u = refl
 
--- it is the case of its reply, and so is a refusal with a number
 sort-again : (s : Sort) → s ≡ sortOfNumber (sortNumber s)
 sort-again Bucketlet = refl
 sort-again Part = refl
 sort-again Bucket = refl
 
+-- it is the case of its reply, and so is a refusal with a number
 pub unrefused-case : (v : Verdict) → Unrefused v → v ≡ verdictOf (verdictReply v)
 unrefused-case (Refused n) u = absurd u
 unrefused-case Accepted u = refl
