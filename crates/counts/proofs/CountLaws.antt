@@ -121,9 +121,9 @@ fourth-not v k c h l e =
     omega (arith, reach)
 
 -- the class is the first guess and one more for each of the next three that v reaches
-pub counted-class : (v c a b d : ℕ) → 1 ≤ v → v ≤ limit → a ≡ cond (leb (startOf (c + 1)) v) 1 0 → b ≡ cond (leb (startOf (c + 2)) v) 1 0
+counted-next : (v c a b d : ℕ) → 1 ≤ v → v ≤ limit → a ≡ cond (leb (startOf (c + 1)) v) 1 0 → b ≡ cond (leb (startOf (c + 2)) v) 1 0
     → d ≡ cond (leb (startOf (c + 3)) v) 1 0 → c ≡ 2 * (31 - leadingZeros 32 v) + 1 → c + a + b + d ≡ classOf base v
-counted-class v c a b d h l ea eb ed e = go _ _ _ refl refl refl ea eb ed
+counted-next v c a b d h l ea eb ed e = go _ _ _ refl refl refl ea eb ed
   where
     top : Top v (31 - leadingZeros 32 v)
     top = zeros-top v h (omega arith) .1
@@ -173,6 +173,11 @@ counted-class v c a b d h l ea eb ed e = go _ _ _ refl refl refl ea eb ed
     go false false false q r s ea eb ed =
         let is = is-class c (c + 1) (omega arith) (first .0) (first .1) (first .2) (leb-false _ _ q) in
         omega (arith, ea, eb, ed, is)
+
+-- the same with the three classes as they are in hand
+pub counted-class : (v c x y z a b d : ℕ) → 1 ≤ v → v ≤ limit → x ≡ c + 1 → y ≡ c + 2 → z ≡ c + 3 → a ≡ cond (leb (startOf x) v) 1 0
+    → b ≡ cond (leb (startOf y) v) 1 0 → d ≡ cond (leb (startOf z) v) 1 0 → c ≡ 2 * (31 - leadingZeros 32 v) + 1 → c + a + b + d ≡ classOf base v
+counted-class v c x y z a b d h l ex ey ez ea eb ed e = counted-next v c a b d h l (rw ex at ea) (rw ey at eb) (rw ez at ed) e
 
 pub number-in : (c : ℕ) → usedClass c ≡ true → numberOf c ≡ classNumber base c
 unfolding numberOf

@@ -49,6 +49,10 @@ part-add i n m xs =
 pub part-suc : (i n : ℕ) (xs : List ℕ) → partSum i (suc n) xs ≡ partSum i n xs + getD xs (i + n) 0
 part-suc i n xs = prefix-suc n (drop i xs) ∙ ap (λ (a : ℕ). partSum i n xs + a) (getD-drop i xs n 0)
 
+-- the same with the entry and its place as they are in hand
+pub part-next : (i n j v s : ℕ) (xs : List ℕ) → j ≡ i + n → v ≡ getD xs j 0 → s ≡ partSum i n xs → s + v ≡ partSum i (suc n) xs
+part-next i n j v s xs e f g = let h : v ≡ getD xs (i + n) 0 = f ∙ ap (λ (k : ℕ). getD xs k 0) e in omega (arith, part-suc i n xs)
+
 pub part-cons : (i n : ℕ) (xs : List ℕ) → partSum i (suc n) xs ≡ getD xs i 0 + partSum (suc i) n xs
 part-cons zero n [] = omega (arith, ap sum (take-nil {A = ℕ} n))
 part-cons (suc i) n [] = omega (arith, ap sum (take-nil {A = ℕ} n))

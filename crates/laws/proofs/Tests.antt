@@ -108,3 +108,8 @@ chosen false x y p = absurd (true-not-false p refl)
 pub not-chosen {ℓ} : {A : Type ℓ} (t : Bool) (x y : A) → t ≡ false → y ≡ cond t x y
 not-chosen true x y p = absurd (true-not-false refl p)
 not-chosen false x y p = refl
+
+-- and what it gives, whichever way the test went
+pub decided : (t : Bool) (v x y : ℕ) → (t ≡ true → v ≡ x) → (t ≡ false → v ≡ y) → v ≡ cond t x y
+decided true v x y p q = p refl
+decided false v x y p q = q refl

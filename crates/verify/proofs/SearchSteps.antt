@@ -30,12 +30,12 @@ module _ (q : Quality) (fs : List ℕ) (a w s : ℕ) where
   pub no-start : Starts 0
   no-start = record { within = omega arith; good = λ x y h. absurd (omega arith) }
 
-  pub no-end : (i : ℕ) → i < w → Ends i 0 (suc i)
-  no-end i h =
+  pub no-end : (i j : ℕ) → j ≡ suc i → i < w → Ends i 0 j
+  no-end i j e h =
       record {
         some = omega arith;
         within = omega arith;
-        counts = ap (λ (n : ℕ). partSum (a + i) n fs) {x = 0} {y = suc i - suc i} (omega arith);
+        counts = ap (λ (n : ℕ). partSum (a + i) n fs) {x = 0} {y = j - suc i} (omega arith);
         good = λ y g l. absurd (omega arith);
       }
 

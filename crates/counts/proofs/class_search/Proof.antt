@@ -1,7 +1,10 @@
 -- `counts::class_search` meets its contract: it is the class after the power that the highest bit reaches, and one more for each of the next three
 -- that the count reaches. Assumes nothing.
+use mathlib.Core.Path.{refl}
+use Prim.Native.Nat.{_+_, _-_, _*_}
 use native.Mathlib.Omega.{arith}
 use borrow.Author.Needs.{needs}
+use lib.Count.{leadingZeros}
 use Rattle.counts.proofs.CountLaws.{zeros-top, counted-class}
 use Rattle.counts.proofs.class_search.Statement.{statement}
 use Rattle.counts.proofs.class_search.Tie as tie
@@ -45,7 +48,11 @@ add-result-3 c = omega (arith, c .before .before .reached .ensures .1, c .before
 returns : tie.Need-returns
 returns c =
     let v = c .before .before .before .args .count in
-    counted-class v _ _ _ _ (omega arith) (omega arith) (c .before .before .reached .ensures .0) (c .before .reached2 .ensures .0) (c .reached3 .ensures .0) (omega arith)
+    let m = 2 * (31 - leadingZeros 32 v) + 1 in
+    omega (
+      arith,
+      counted-class v m _ _ _ _ _ _ (omega arith) (omega arith) (omega arith) (omega arith) (omega arith) (c .before .before .reached .ensures .0) (c .before .reached2 .ensures .0) (c .reached3 .ensures .0) refl,
+    )
 
 pub class-search-spec : {M : Type 1} → statement M
 class-search-spec =

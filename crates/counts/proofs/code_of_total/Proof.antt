@@ -3,6 +3,7 @@
 use Prim.Native.Nat.{_*_, _/_, _%_, _^_}
 use native.Mathlib.Omega.{arith}
 use borrow.Author.Needs.{needs}
+use lib.Bits.{or-comm}
 use Rattle.coding.specs.Base.{countable}
 use Rattle.coding.specs.Total.{totalCode}
 use Rattle.coding.proofs.TotalLaws.{shift-small}
@@ -32,8 +33,9 @@ returns-3 c =
     let t = c .before .before .before .args .total in
     let s = c .shift-of .result in
     let e = c .shift-of .ensures in
+    let x = t / 2 ^ s * 32 % 2 ^ 32 in
     replied Code (λ _. Refused) (countable t) _ (totalCode t) 16 (in-range t (omega arith) (omega arith))
-    (code-packed t s (t / 2 ^ s * 32 % 2 ^ 32) (omega arith) e (omega (arith, bits-shifted t s e)))
+    (omega (arith, code-packed t s x (omega arith) e (omega (arith, bits-shifted t s e)), or-comm x s))
 
 pub code-of-total-spec : {M : Type 1} → statement M
 code-of-total-spec = tie.close (tie.spec returns returns-2 shift-of-requires shr-t4 returns-3)

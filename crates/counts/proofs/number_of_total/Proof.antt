@@ -6,7 +6,7 @@ use Prim.Native.Nat.{_/_}
 use native.Mathlib.Omega.{arith}
 use borrow.Author.Needs.{needs}
 use borrow.Author.Tests.{not-true, not-false}
-use lib.Bits.{and-mask}
+use lib.Bits.{and-mask, and-comm}
 use Rattle.coding.specs.Total.{validCode, totalNumber}
 use Rattle.counts.specs.declared.Meaning.the-variants.{Number, Refused}
 use Rattle.counts.specs.Reply.{totalMeaning}
@@ -28,7 +28,7 @@ returns c =
     turned-away Number (λ _. Refused) (validCode n) (totalNumber n) 17 (tested (c .before) false (not-true _ (c .if1 .taken))) (λ z. omega arith)
 
 shl-t6 : tie.Need-shl-t6
-shl-t6 c = omega (arith, and-mask (c .before .before .args .code) 5)
+shl-t6 c = let n = c .before .before .args .code in omega (arith, and-mask n 5, and-comm n 31)
 
 shift-middle-requires : tie.Need-shift-middle-requires
 shift-middle-requires c κs = search needs
@@ -39,14 +39,14 @@ valid c = tested (c .before .before) true (not-false _ (c .before .if1 .left))
 add-t8 : tie.Need-add-t8
 add-t8 c =
     let n = c .before .before .before .args .code in
-    record { fits = number-packed n (n / 32) _ _ (c .shift-middle .ensures) (omega arith) (omega (arith, and-mask n 5)) (valid c) .small }
+    record { fits = number-packed n (n / 32) _ _ (c .shift-middle .ensures) (omega arith) (omega (arith, and-mask n 5, and-comm n 31)) (valid c) .small }
 
 returns-2 : tie.Need-returns-2
 unfolding totalMeaning
 returns-2 c =
     let n = c .before .before .before .args .code in
     replied Number (λ _. Refused) (validCode n) _ (totalNumber n) 17 (valid c)
-    (number-packed n (n / 32) _ _ (c .shift-middle .ensures) (omega arith) (omega (arith, and-mask n 5)) (valid c) .value)
+    (number-packed n (n / 32) _ _ (c .shift-middle .ensures) (omega arith) (omega (arith, and-mask n 5, and-comm n 31)) (valid c) .value)
 
 pub number-of-total-spec : {M : Type 1} → statement M
 number-of-total-spec =

@@ -3,7 +3,7 @@
 use mathlib.Core.Path.{sym, ap, _∙_}
 use mathlib.Core.Bool.{Bool, cond}
 use Prim.Native.Nat.{ℕ, suc}
-use native.Mathlib.Numerals.{add-one}
+use native.Mathlib.Omega.{arith}
 use borrow.Author.Needs.{needs}
 use lib.ListN.{getD}
 use Rattle.packing.proofs.listed_at.Statement.{statement}
@@ -32,7 +32,7 @@ returns c =
 returns-2 : tie.Need-returns-2
 returns-2 c =
     let a = c .before .before .args in
-    ap (λ (n : ℕ). getD (a .t1 .widths) n 0) (add-one (a .k)) ∙ ap (λ (f : Bool). getD (a .t1 .widths) (cond f (a .k) (suc (a .k))) 0) (sym (c .before .if1 .left))
+    ap (λ (n : ℕ). getD (a .t1 .widths) n 0) {y = suc (a .k)} (omega arith) ∙ ap (λ (f : Bool). getD (a .t1 .widths) (cond f (a .k) (suc (a .k))) 0) (sym (c .before .if1 .left))
 
 pub listed-at-spec : {M : Type 1} → statement M
 listed-at-spec =

@@ -1,6 +1,6 @@
 -- `reading::length_fault` meets its contract: both sides are the same comparison.
 -- Assumes nothing.
-use mathlib.Core.Path.{_≡_, ap}
+use mathlib.Core.Path.{ap}
 use mathlib.Core.Bool.{not}
 use Prim.Native.Nat.{ℕ, _+_, _*_}
 use native.Mathlib.Omega.{arith}
@@ -28,8 +28,7 @@ returns : tie.Need-returns
 unfolding lengthFault
 returns c =
     let ws = c .before .before .args .words .now in
-    let e : 4 + 5 * c .bucket-count .result ≡ 4 + 5 * buckets ws = omega (arith, c .bucket-count .ensures) in
-    ap (λ (n : ℕ). not (eqb (length ws) n)) e
+    ap (λ (n : ℕ). not (eqb (length ws) n)) {y = 4 + 5 * buckets ws} (omega (arith, c .bucket-count .ensures))
 
 pub length-fault-spec : {M : Type 1} → statement M
 length-fault-spec = tie.close (tie.spec bucket-count-requires cast-result mul-result add-result returns)

@@ -5,12 +5,6 @@ use Rattle.layout.specs.Words.{word}
 use Rattle.unpacking.proofs.head_of.Statement.{statement}
 use Rattle.unpacking.proofs.head_of.Tie as tie
 
-array-read-t5 : tie.Need-array-read-t5
-array-read-t5 c = search needs
-
-array-read-t8 : tie.Need-array-read-t8
-array-read-t8 c = search needs
-
 array-read-field-of : tie.Need-array-read-field-of
 array-read-field-of c = search needs
 
@@ -23,9 +17,6 @@ array-read-field-of-2 c = search needs
 field-of-requires-2 : tie.Need-field-of-requires-2
 field-of-requires-2 c κs = search needs
 
-array-read-t19 : tie.Need-array-read-t19
-array-read-t19 c = search needs
-
 returns : tie.Need-returns
 returns c =
     let four = c .before .before .args .t1 in
@@ -37,11 +28,11 @@ pub head-of-spec : {M : Type 1} → statement M
 head-of-spec =
     tie.close
     (tie.spec
-    array-read-t5
-    array-read-t8
+    (λ c. search needs)
+    (λ c. search needs)
     array-read-field-of
     field-of-requires
     array-read-field-of-2
     field-of-requires-2
-    array-read-t19
+    (λ c. search needs)
     returns)

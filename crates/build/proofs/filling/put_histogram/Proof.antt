@@ -1,7 +1,9 @@
 -- `build::filling::put_histogram` meets its contract: the head words go before the buckets that are written.
 -- Assumes nothing.
+use Prim.Native.Nat.{_*_, _%_, _^_}
 use native.Mathlib.Omega.{arith}
 use borrow.Author.Needs.{needs}
+use lib.Bits.{or-comm}
 use lib.ListN.{length-set}
 use Rattle.build.proofs.FillLaws.{whole, quality-word}
 use Rattle.build.proofs.filling.put_histogram.Statement.{statement}
@@ -50,8 +52,10 @@ returns : tie.Need-returns
 returns c =
     let s = c .before .before .before .before .before .before .before .before .before in
     let p = c .before .before .before .before .before .put-buckets in
+    let qn = s .args .q .qn in
+    let qd = s .args .q .qd in
     whole (s .args .freqs .now) (s .args .q) (s .args .words .now) _ (p .result) _ _ (omega (arith, s .pre .1)) (p .kept .1 .1 .0)
-    (quality-word (s .args .q .qn) (s .args .q .qd) (s .pre .0 .qn-small) (s .pre .0 .qd-small)) (omega arith) (p .ensures)
+    (omega (arith, quality-word qn qd (s .pre .0 .qn-small) (s .pre .0 .qd-small), or-comm (qn * 1024 % 2 ^ 32) qd)) (omega arith) (p .ensures)
 
 pub put-histogram-spec : {M : Type 1} → statement M
 put-histogram-spec =

@@ -10,7 +10,7 @@ use borrow.Author.Count.{below-more}
 use borrow.Author.Needs.{needs}
 use borrow.Author.Tests.{not-true, not-false}
 use Rattle.laws.specs.Sums.{partSum}
-use Rattle.laws.proofs.SumsLaws.{part-suc}
+use Rattle.laws.proofs.SumsLaws.{part-next}
 use Rattle.coding.specs.Base.{limit}
 use Rattle.coding.specs.Class.{classValue}
 use Rattle.fit.specs.declared.Quality.{Quality}
@@ -64,7 +64,7 @@ total : (c : tie.After-wide Inv-loop μ-loop) → let s = c .before .before .bef
 total c =
     let s = c .before .before .before .before .before in
     let l = c .before .before .before .loop in
-    omega (arith, l .inv .whole, c .wide .ensures, part-suc (s .args .a) (l .w) (s .args .freqs .now))
+    part-next (s .args .a) (l .w) _ _ _ (s .args .freqs .now) (omega arith) (c .wide .ensures) (l .inv .whole)
 
 add-total : tie.Need-add-total Inv-loop μ-loop
 add-total c =

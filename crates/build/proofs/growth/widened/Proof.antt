@@ -37,9 +37,10 @@ abbrev μ-loop : tie.MeasureT-loop
 μ-loop freqs a w q least end low₀ up₀ count₀ base₀ i₀ low up count base i = i
 
 -- one entry earlier
-next-count : (fs : List ℕ) (a w i j count f : ℕ) → i ≡ suc j → i ≤ suc w → count ≡ rangeCount fs a i (suc w - i) → f ≡ getD fs (a + j) 0
+next-count : (fs : List ℕ) (a w i j m count f : ℕ) → i ≡ suc j → m ≡ a + j → i ≤ suc w → count ≡ rangeCount fs a i (suc w - i) → f ≡ getD fs m 0
     → count + f ≡ rangeCount fs a j (suc w - j)
-next-count fs a w i j count f e h c g =
+next-count fs a w i j m count f e o h c g =
+    let v : f ≡ getD fs (a + j) 0 = g ∙ ap (λ (x : ℕ). getD fs x 0) o in
     let n : suc w - j ≡ suc (suc w - i) = omega arith in
     let k : suc (a + j) ≡ a + i = omega arith in
     let p : rangeCount fs a j (suc (suc w - i)) ≡ getD fs (a + j) 0 + rangeCount fs a i (suc w - i) =
@@ -90,7 +91,7 @@ counted : (c : tie.After-wide Inv-loop μ-loop) → let l = c .before .before .b
 counted c =
     let l = c .before .before .before .loop in
     let a = c .before .before .before .before .before .before .before .before .args in
-    next-count (a .freqs .now) (a .a) (a .w) (l .i) (l .i - 1) (l .count) (c .wide .result) (omega arith) (l .inv .start) (l .inv .counts) (c .wide .ensures)
+    next-count (a .freqs .now) (a .a) (a .w) (l .i) (l .i - 1) _ (l .count) (c .wide .result) (omega arith) (omega arith) (l .inv .start) (l .inv .counts) (c .wide .ensures)
 
 small : (c : tie.After-wide Inv-loop μ-loop) → c .before .before .before .loop .count + c .wide .result ≤ limit
 small c =

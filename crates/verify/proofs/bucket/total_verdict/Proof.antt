@@ -75,12 +75,6 @@ returns-2 : tie.Need-returns-2
 unfolding totalVerdict
 returns-2 c = sym (good-accepted _ _ (sym (tested (c .before)) ∙ c .if1 .taken))
 
-cast-t12 : tie.Need-cast-t12
-cast-t12 c = search needs
-
-cast-t13 : tie.Need-cast-t13
-cast-t13 c = search needs
-
 returns-3 : tie.Need-returns-3
 unfolding totalVerdict
 returns-3 c = sym (bad-fails _ _ (sym (tested (c .before)) ∙ c .if1 .left))
@@ -98,6 +92,6 @@ total-verdict-spec =
     count-of-requires
     is-near-requires
     returns-2
-    cast-t12
-    cast-t13
+    (λ c. search needs)
+    (λ c. search needs)
     returns-3)

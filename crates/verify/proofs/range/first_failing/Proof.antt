@@ -54,7 +54,7 @@ loop2-holds : tie.Need-loop2-holds Inv-loop2 μ-loop2 Inv-loop μ-loop Inv-searc
 loop2-holds c =
     let a = c .before .before .before .before .args in
     let i = c .before .loop .start in
-    rw (add-one i) (no-end (a .q) (a .freqs .now) (a .a) (a .w) (a .s) i (omega arith))
+    no-end (a .q) (a .freqs .now) (a .a) (a .w) (a .s) i _ (omega arith) (omega arith)
 
 sub-count : tie.Need-sub-count Inv-loop2 μ-loop2 Inv-loop μ-loop Inv-search μ-search
 sub-count c = omega (arith, c .before .loop2 .inv .some)

@@ -17,10 +17,10 @@ mul-scaled : tie.Need-mul-scaled
 mul-scaled c = omega (arith, made c .area)
 
 mul-if1 : tie.Need-mul-if1
-mul-if1 c = omega (arith, made (c .before) .over-estimate)
+mul-if1 c = omega (arith, made (c .before) .over-estimate, made (c .before) .under-area)
 
 mul-if1-2 : tie.Need-mul-if1-2
-mul-if1-2 c = omega (arith, made (c .before .before) .under-area)
+mul-if1-2 c = omega (arith, made (c .before .before) .over-estimate, made (c .before .before) .under-area)
 
 returns : tie.Need-returns
 returns c =
