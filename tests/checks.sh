@@ -2,23 +2,31 @@
 # What rt does not look at by itself. Each check takes the repository's root, and those of a run also the saved output
 # of `rt ci`. It prints a line `FAIL: ..` for each fault and fails if there was one.
 
-# The checks of the tree, and those of what `rt ci` left, in the order in which tests/run asks them.
+# The checks of the tree, those of what `rt ci` left and that of the controls, in the order in which tests/run asks them.
 # shellcheck disable=SC2034
 tree_checks=(
     crates_are_listed
     sources_are_in_crates
+    claims_are_proved
     edits_are_tried
+    programs_are_apart
+    functions_have_controls
     libraries_call_no_c
     crates_have_one_root
+    outputs_are_right
 )
 # shellcheck disable=SC2034
 run_checks=(
     edits_were_refused
-    edits_break_facts
+    programs_were_refused
+    edits_keep_the_form
     verdicts_are_of_this_run
     crates_are_proved
     only_libc_is_assumed
+    programs_ran
 )
+# shellcheck disable=SC2034
+control_checks=(controls_are_proved)
 
 # What the prover says where a proof no longer fits the text: such a refusal shows nothing about the meaning.
 form_phrases=(
@@ -28,6 +36,7 @@ form_phrases=(
     'needs a function type'
     'needs a function (or path) type'
     'has no field'
+    'expected type `tie.Need-'
 )
 
 # Prints a fault and counts it in the variable `faults` of the check that calls this.
@@ -54,11 +63,6 @@ crate_names() { # ROOT
 # Prints each path of the tree that meets find's expression; target/ and .git/ are not the tree's.
 tree_paths() { # ROOT EXPRESSION..
     (cd "$1" && find . \( -path ./target -o -path ./.git \) -prune -o \( "${@:2}" \) -print) | sed 's|^\./||' | sort
-}
-
-# Prints CRATE/LABEL for each must-fail edit, the name by which rt calls it.
-edit_labels() { # ROOT
-    tree_paths "$1" -path './crates/*/must-fail/*.edit' | sed 's|^crates/\(.*\)/must-fail/\(.*\)\.edit$|\1/\2|'
 }
 
 # A folder that is not listed is never proved, and rt says nothing of one that holds no source.
@@ -88,19 +92,91 @@ sources_are_in_crates() { # ROOT
     [ "$faults" -eq 0 ]
 }
 
+# Prints each record without parameters in a crate's specs/ that is no data, which a definition there takes or gives.
+claims() { # CRATE_FOLDER
+    find "$1/specs" -name '*.antt' -exec awk '
+        { sub(/--.*/, "") }
+        match($0, /^(pub )?record [A-Za-z0-9]+ : Type/) {
+            sub(/ : Type.*/, "")
+            sub(/.* /, "")
+            records[$0] = 1
+            next
+        }
+        /^[^ ].* : / {
+            gsub(/[()]/, " ")
+            for (i = 1; i <= NF; i++) taken[$i] = 1
+        }
+        END { for (name in records) if (!(name in taken)) print name }' {} + 2>/dev/null | sort
+}
+
+# Answers whether a definition in a crate's proofs/ has the type of a claim, by the name that it has in specs/.
+is_proved() { # CRATE_FOLDER CLAIM
+    local file
+    while IFS= read -r file; do
+        ! grep -qE "^use Rattle·${1##*/}·specs\.specs\..*\{(.*, )?$2(,.*)?\}\$" "$file" || return 0
+    done < <(grep -rlE --include='*.antt' "^(pub )?[a-z0-9-]+ : $2\$" "$1/proofs" 2>/dev/null)
+    return 1
+}
+
+# A file of proofs that no other imports can vanish unseen; one that is there is checked, since rt refuses a file that no `mod` line names.
+claims_are_proved() { # ROOT
+    local faults=0 name claim
+    for name in $(crate_names "$1"); do
+        for claim in $(claims "$1/crates/$name"); do
+            is_proved "$1/crates/$name" "$claim" || fault "$name claims $claim, and no definition of its proofs/ has that type"
+        done
+    done
+    [ "$faults" -eq 0 ]
+}
+
 # An edit elsewhere, or under another name, is never tried: it would promise what nothing shows.
 edits_are_tried() { # ROOT
     local faults=0 names path
-    local place='^crates/([^/]+)/must-fail/[^/.][^/]*\.edit$'
+    local place='^crates/([^/]+)/(must-fail/[^/.][^/]*|controls)\.edit$'
     names=$(crate_names "$1")
     while IFS= read -r path; do
         if ! [[ $path =~ $place ]] || ! has_entry "$names" "${BASH_REMATCH[1]}"; then
-            fault "$path is not in must-fail/ of a listed crate, so it is never tried"
+            fault "$path is neither in must-fail/ nor the controls.edit of a listed crate, so it is never tried"
         fi
     done < <(tree_paths "$1" ! -type d -name '*.edit')
     while IFS= read -r path; do
         fault "$path is in a must-fail folder and is no .edit file"
     done < <(tree_paths "$1" -path '*/must-fail/*' ! \( -type f -name '*.edit' \))
+    [ "$faults" -eq 0 ]
+}
+
+# In one file each wrong program can be seen refused by itself only if it changes functions of its own, and nothing that others use: a constant, a
+# contract or a definition is changed in a file of its own.
+programs_are_apart() { # ROOT
+    local faults=0 edit crate program function names owners
+    while IFS= read -r edit; do
+        crate=${edit%%/*}
+        [[ ${edit#*/} == group_* ]] || continue
+        owners=''
+        while read -r program function; do
+            [ "$program" != - ] || fault "must-fail $edit has a replacement before the name of a wrong program"
+            [ "$function" != - ] || fault "must-fail $edit: $program changes more than the body of one function of the crate"
+            names=$(awk -v f="$function" '$2 == f { print $1 }' <<<"$owners" | grep -vxF -e "$program")
+            [ -z "$names" ] || fault "must-fail $edit: $program changes $function, and so does $names"
+            owners+="$program $function"$'\n'
+        done < <(edit_changes "$1/crates/$crate" "$1/crates/$crate/must-fail/${edit#*/}.edit")
+        [ -n "$owners" ] || fault "must-fail $edit has no replacement"
+    done < <(edit_labels "$1")
+    while IFS= read -r program; do
+        fault "must-fail ${program% *} has two wrong programs named ${program#* }"
+    done < <(program_names "$1" | sort | uniq -d)
+    [ "$faults" -eq 0 ]
+}
+
+# A refusal shows something only if an edit of that function that keeps the meaning stays proved, so each has one, or a reason why there is none.
+functions_have_controls() { # ROOT
+    local faults=0 name wrong kept
+    for name in $(crate_names "$1"); do
+        kept=$([ ! -f "$1/crates/$name/controls.edit" ] || controlled_functions "$1/crates/$name")
+        while IFS= read -r wrong; do
+            has_entry "$kept" "$wrong" || fault "$name has wrong programs of $wrong and no control of it, nor a reason"
+        done < <(changed_functions "$1" "$name")
+    done
     [ "$faults" -eq 0 ]
 }
 
@@ -129,6 +205,20 @@ crates_have_one_root() { # ROOT
     [ "$faults" -eq 0 ]
 }
 
+# rt compares what a program prints with its file `stdout`, and no more: a case that went wrong may have been stored.
+outputs_are_right() { # ROOT
+    local faults=0 name
+    for name in $(crate_names "$1"); do
+        [ -f "$1/crates/$name/src/main.rt" ] || continue
+        if [ ! -s "$1/crates/$name/stdout" ]; then
+            fault "the program $name has no stored output"
+        elif grep -qw WRONG "$1/crates/$name/stdout"; then
+            fault "the stored output of $name says WRONG"
+        fi
+    done
+    [ "$faults" -eq 0 ]
+}
+
 # rt's count of refused edits does not say which: each edit of the tree must be one of them, with the prover's words kept.
 edits_were_refused() { # ROOT OUTPUT
     local faults=0 refused edit
@@ -143,15 +233,35 @@ edits_were_refused() { # ROOT OUTPUT
     [ "$faults" -eq 0 ]
 }
 
-# rt prints the same for an edit that breaks a fact and one that only breaks the form; the prover's words tell them apart.
-edits_break_facts() { # ROOT OUTPUT
+# Of several wrong programs in one file each must be refused for what it does itself.
+programs_were_refused() { # ROOT OUTPUT
+    local faults=0 edit crate program refused functions function seen
+    while IFS= read -r edit; do
+        crate=${edit%%/*}
+        [ -f "$1/target/must-fail/$edit/.log" ] || continue # edits_were_refused names it
+        refused=$(refused_functions "$crate" "$1/target/must-fail/$edit/.log")
+        functions=$(edit_changes "$1/crates/$crate" "$1/crates/$crate/must-fail/${edit#*/}.edit")
+        ! grep -q ' -$' <<<"$functions" || continue # no function's body alone: it has a file of its own
+        while IFS= read -r program; do
+            seen=no
+            while IFS= read -r function; do
+                ! has_entry "$refused" "$function" || seen=yes
+            done < <(awk -v p="$program" '$1 == p { print $2 }' <<<"$functions")
+            [ "$seen" = yes ] || fault "must-fail $edit: $program was not refused at a function that it changes"
+        done < <(cut -d ' ' -f 1 <<<"$functions" | sort -u)
+    done < <(edit_labels "$1")
+    [ "$faults" -eq 0 ]
+}
+
+# Where a proof no longer fits the text, rt says the same as where the program is wrong; the prover's words tell of it.
+edits_keep_the_form() { # ROOT OUTPUT
     local faults=0 edit log text phrase
     while IFS= read -r edit; do
         log=$1/target/must-fail/$edit/.log
         [ -f "$log" ] || continue # edits_were_refused names it
         text=$(tr -s '[:space:]' ' ' <"$log") # the prover breaks its lines anywhere
         for phrase in "${form_phrases[@]}"; do
-            [[ $text != *"$phrase"* ]] || fault "must-fail $edit breaks only the form of a proof: its log says '$phrase'"
+            [[ $text != *"$phrase"* ]] || fault "must-fail $edit breaks the form of a proof: its log says '$phrase'"
         done
     done < <(edit_labels "$1")
     [ "$faults" -eq 0 ]
@@ -221,6 +331,27 @@ only_libc_is_assumed() { # ROOT OUTPUT
         while IFS= read -r line; do
             fault "the $kind $name $line"
         done < <([ ! -s "$log" ] || assumed_too_much "$log" "$kind")
+    done
+    [ "$faults" -eq 0 ]
+}
+
+# Each program was run, and printed its stored output.
+programs_ran() { # ROOT OUTPUT
+    local faults=0 name
+    for name in $(crate_names "$1"); do
+        [ ! -f "$1/crates/$name/src/main.rt" ] ||
+            grep -q "^rt: $name ran .*wrote what its file 'stdout' has" "$2" || fault "the program $name was not seen to print its stored output"
+    done
+    [ "$faults" -eq 0 ]
+}
+
+# The controls, tried in must-fail/ of a copy, must not be refused there.
+controls_are_proved() { # ROOT OUTPUT
+    local faults=0 name
+    for name in $(crate_names "$1"); do
+        [ ! -f "$1/crates/$name/controls.edit" ] ||
+            grep -q "^rt: must-fail $name/controls: NOT REFUSED: the crate is still proved with this edit" "$2" ||
+            fault "$name is not proved with its controls"
     done
     [ "$faults" -eq 0 ]
 }
