@@ -1,6 +1,6 @@
 # shellcheck shell=bash
-# What rt does not look at by itself. Each check takes the repository's root, and those of a run also the saved output
-# of `rt ci`. It prints a line `FAIL: ..` for each fault and fails if there was one.
+# What rt does not look at by itself. Each check takes the repository's root, and those of a run also the saved output of `rt ci`, or that of the
+# controls. It prints a line `FAIL: ..` for each fault and fails if there was one.
 
 # The checks of the tree, those of what `rt ci` left and that of the controls, in the order in which tests/run asks them.
 # shellcheck disable=SC2034
@@ -37,7 +37,11 @@ form_phrases=(
     'needs a function (or path) type'
     'has no field'
     'expected type `tie.Need-'
+    'has type `tie.Need-'
 )
+
+# The records of specs/ without parameters that are data, as CRATE/RECORD. Any other is a claim, or a set of worked examples.
+data_records=(coding/Base exam/Lines laws/Reply laws/Sentence verdict/Answer)
 
 # Prints a fault and counts it in the variable `faults` of the check that calls this.
 fault() {
@@ -92,21 +96,9 @@ sources_are_in_crates() { # ROOT
     [ "$faults" -eq 0 ]
 }
 
-# Prints each record without parameters in a crate's specs/ that is no data, which a definition there takes or gives.
-claims() { # CRATE_FOLDER
-    find "$1/specs" -name '*.antt' -exec awk '
-        { sub(/--.*/, "") }
-        match($0, /^(pub )?record [A-Za-z0-9]+ : Type/) {
-            sub(/ : Type.*/, "")
-            sub(/.* /, "")
-            records[$0] = 1
-            next
-        }
-        /^[^ ].* : / {
-            gsub(/[()]/, " ")
-            for (i = 1; i <= NF; i++) taken[$i] = 1
-        }
-        END { for (name in records) if (!(name in taken)) print name }' {} + 2>/dev/null | sort
+# Prints each record without parameters in a crate's specs/.
+plain_records() { # CRATE_FOLDER
+    [ ! -d "$1/specs" ] || find "$1/specs" -name '*.antt' -exec sed -nE 's/ *--.*//; s/^(pub )?record ([^ (]+)( : Type.*)?$/\2/p' {} +
 }
 
 # Answers whether a definition in a crate's proofs/ has the type of a claim, by the name that it has in specs/.
@@ -114,16 +106,21 @@ is_proved() { # CRATE_FOLDER CLAIM
     local file
     while IFS= read -r file; do
         ! grep -qE "^use Rattle·${1##*/}·specs\.specs\..*\{(.*, )?$2(,.*)?\}\$" "$file" || return 0
-    done < <(grep -rlE --include='*.antt' "^(pub )?[a-z0-9-]+ : $2\$" "$1/proofs" 2>/dev/null)
+    done < <(grep -lsE "^(pub )?[a-z0-9-]+ : $2\$" "$1"/proofs/*.antt)
     return 1
 }
 
-# A file of proofs that no other imports can vanish unseen; one that is there is checked, since rt refuses a file that no `mod` line names.
+# A file of proofs that no other imports can vanish unseen. One that stands in proofs/ itself is checked: rt refuses it if no `mod` line names it.
 claims_are_proved() { # ROOT
-    local faults=0 name claim
+    local faults=0 name claim data
+    data=$(printf '%s\n' "${data_records[@]}")
+    while IFS= read -r name; do
+        ! grep -qF '{-' "$1/$name" || fault "$name has a block comment, which the gate does not read"
+    done < <(tree_paths "$1" -type f -name '*.antt')
     for name in $(crate_names "$1"); do
-        for claim in $(claims "$1/crates/$name"); do
-            is_proved "$1/crates/$name" "$claim" || fault "$name claims $claim, and no definition of its proofs/ has that type"
+        for claim in $(plain_records "$1/crates/$name"); do
+            has_entry "$data" "$name/$claim" || is_proved "$1/crates/$name" "$claim" ||
+                fault "$name claims $claim, and no definition of its proofs/ has that type"
         done
     done
     [ "$faults" -eq 0 ]
@@ -140,6 +137,9 @@ edits_are_tried() { # ROOT
         fi
     done < <(tree_paths "$1" ! -type d -name '*.edit')
     while IFS= read -r path; do
+        ! grep -qs '^file: proofs/' "$1/$path" || fault "$path changes a proof, so that its refusal says nothing of the program"
+    done < <(tree_paths "$1" -type f -name '*.edit')
+    while IFS= read -r path; do
         fault "$path is in a must-fail folder and is no .edit file"
     done < <(tree_paths "$1" -path '*/must-fail/*' ! \( -type f -name '*.edit' \))
     [ "$faults" -eq 0 ]
@@ -148,18 +148,26 @@ edits_are_tried() { # ROOT
 # In one file each wrong program can be seen refused by itself only if it changes functions of its own, and nothing that others use: a constant, a
 # contract or a definition is changed in a file of its own.
 programs_are_apart() { # ROOT
-    local faults=0 edit crate program function names owners
+    local faults=0 edit crate file headed program function names owners
     while IFS= read -r edit; do
         crate=${edit%%/*}
-        [[ ${edit#*/} == group_* ]] || continue
+        file=$1/crates/$crate/must-fail/${edit#*/}.edit
+        # of each comment the program that it names, or `?`
+        headed=$(awk '/^#/ { print /^# [a-z0-9_]+: ./ ? substr($2, 1, length($2) - 1) : "?" }' "$file")
+        if [[ ${edit#*/} != group_* ]]; then
+            ! grep -qvxF '?' <<<"${headed:-?}" || fault "must-fail $edit names wrong programs as a group does, and is no group_*.edit"
+            continue
+        fi
+        [ "$headed" = "$(edit_changes "$1/crates/$crate" "$file" | cut -d ' ' -f 1 | uniq)" ] ||
+            fault "must-fail $edit: its comments are not the names of its wrong programs, each once and before a replacement"
         owners=''
         while read -r program function; do
             [ "$program" != - ] || fault "must-fail $edit has a replacement before the name of a wrong program"
-            [ "$function" != - ] || fault "must-fail $edit: $program changes more than the body of one function of the crate"
+            [ "$function" != - ] || fault "must-fail $edit: $program changes a text that does not stand once, in the body of a function"
             names=$(awk -v f="$function" '$2 == f { print $1 }' <<<"$owners" | grep -vxF -e "$program")
             [ -z "$names" ] || fault "must-fail $edit: $program changes $function, and so does $names"
             owners+="$program $function"$'\n'
-        done < <(edit_changes "$1/crates/$crate" "$1/crates/$crate/must-fail/${edit#*/}.edit")
+        done < <(edit_changes "$1/crates/$crate" "$file")
         [ -n "$owners" ] || fault "must-fail $edit has no replacement"
     done < <(edit_labels "$1")
     while IFS= read -r program; do
@@ -173,6 +181,7 @@ functions_have_controls() { # ROOT
     local faults=0 name wrong kept
     for name in $(crate_names "$1"); do
         kept=$([ ! -f "$1/crates/$name/controls.edit" ] || controlled_functions "$1/crates/$name")
+        ! has_entry "$kept" - || fault "$name has a control of a text that does not stand once, in the body of a function"
         while IFS= read -r wrong; do
             has_entry "$kept" "$wrong" || fault "$name has wrong programs of $wrong and no control of it, nor a reason"
         done < <(changed_functions "$1" "$name")
@@ -212,7 +221,7 @@ outputs_are_right() { # ROOT
         [ -f "$1/crates/$name/src/main.rt" ] || continue
         if [ ! -s "$1/crates/$name/stdout" ]; then
             fault "the program $name has no stored output"
-        elif grep -qw WRONG "$1/crates/$name/stdout"; then
+        elif grep -q WRONG "$1/crates/$name/stdout"; then
             fault "the stored output of $name says WRONG"
         fi
     done
@@ -249,6 +258,10 @@ programs_were_refused() { # ROOT OUTPUT
             done < <(awk -v p="$program" '$1 == p { print $2 }' <<<"$functions")
             [ "$seen" = yes ] || fault "must-fail $edit: $program was not refused at a function that it changes"
         done < <(cut -d ' ' -f 1 <<<"$functions" | sort -u)
+        while IFS= read -r function; do
+            has_entry "$(cut -d ' ' -f 2 <<<"$functions")" "$function" ||
+                fault "must-fail $edit: $function is refused, and no wrong program changes it"
+        done < <(grep . <<<"$refused")
     done < <(edit_labels "$1")
     [ "$faults" -eq 0 ]
 }
@@ -340,7 +353,8 @@ programs_ran() { # ROOT OUTPUT
     local faults=0 name
     for name in $(crate_names "$1"); do
         [ ! -f "$1/crates/$name/src/main.rt" ] ||
-            grep -q "^rt: $name ran .*wrote what its file 'stdout' has" "$2" || fault "the program $name was not seen to print its stored output"
+            grep -q "^rt: $name ran\( as nobody\)\?, and wrote what its file 'stdout' has" "$2" ||
+            fault "the program $name was not seen to print its stored output"
     done
     [ "$faults" -eq 0 ]
 }
@@ -349,9 +363,9 @@ programs_ran() { # ROOT OUTPUT
 controls_are_proved() { # ROOT OUTPUT
     local faults=0 name
     for name in $(crate_names "$1"); do
-        [ ! -f "$1/crates/$name/controls.edit" ] ||
+        ! grep -qs '^new:' "$1/crates/$name/controls.edit" || # only reasons why there are none
             grep -q "^rt: must-fail $name/controls: NOT REFUSED: the crate is still proved with this edit" "$2" ||
-            fault "$name is not proved with its controls"
+            fault "$name is not proved with its controls: see target/controls/target/must-fail/$name/controls/.log"
     done
     [ "$faults" -eq 0 ]
 }

@@ -8,8 +8,8 @@ edit_labels() { # ROOT
     tree_paths "$1" -path './crates/*/must-fail/*.edit' | sed 's|^crates/\(.*\)/must-fail/\(.*\)\.edit$|\1/\2|'
 }
 
-# Prints `PROGRAM FUNCTION` for each replacement of an edit, made one after the other as rt makes them; the function whose body it changes is `-` where
-# the text is in no body, or in several places.
+# Prints `PROGRAM FUNCTION` for each replacement of an edit that changes something, made one after the other as rt makes them; the function whose body
+# it changes is `-` where the old text is in no body, or in several places.
 edit_changes() { # CRATE_FOLDER EDIT_FILE
     local label=${2##*/}
     awk -v crate="$1" -v label="${label%.edit}" '
@@ -19,7 +19,7 @@ edit_changes() { # CRATE_FOLDER EDIT_FILE
             while ((getline line <(crate "/" file)) > 0) text[file, ++size[file]] = line
             close(crate "/" file)
         }
-        # the function whose body holds `old`, at line `at`: rt fmt puts the braces of a body under its `fn`
+        # the function whose body holds `old`, at line `at`: rt fmt puts the last brace of a body under its `fn`
         function function_of(file,    module, n, line, name, indent, inside, found, times) {
             module = substr(file, length("src/") + 1)
             sub(/\.rt$/, "/", module)
@@ -38,7 +38,7 @@ edit_changes() { # CRATE_FOLDER EDIT_FILE
                     sub(/[^ ].*/, "", indent)
                     sub(/.* /, "", name)
                     inside = line ~ /\{$/
-                } else if (line == indent "{") inside = 1
+                } else if (line == indent "{" || index(line, indent ")") == 1 && line ~ /\{$/) inside = 1
             }
             return times == 1 ? found : "-"
         }
@@ -51,16 +51,16 @@ edit_changes() { # CRATE_FOLDER EDIT_FILE
             file = substr($0, 7)
             load(file)
         }
-        /^old: / {
-            old = substr($0, 6)
-            at = 0
-            print program, function_of(file)
-        }
-        /^new:/ && at {
+        /^old: / { old = substr($0, 6) }
+        /^new:/ {
             new = substr($0, 5)
             sub(/^ /, "", new)
+            at = 0
+            name = function_of(file)
+            if (new != old) print program, name
             where = index(text[file, at], old)
-            text[file, at] = substr(text[file, at], 1, where - 1) new substr(text[file, at], where + length(old))
+            if (at) text[file, at] = substr(text[file, at], 1, where - 1) new substr(text[file, at], where + length(old))
+            old = ""
         }' "$2"
 }
 
@@ -74,8 +74,9 @@ refused_functions() { # CRATE LOG
             failing = text = ""
         }
         /^[^ ]/ { conclude() }
-        match($0, /\/proofs\/[^ ]*\/Proof\.antt:[0-9]+:[0-9]+: error: /) {
-            failing = substr($0, RSTART + length("/proofs/"), RLENGTH)
+        match($0, "/must-fail/" crate "/[^/ ]+/proofs/[^ ]*/Proof[.]antt:[0-9]+:[0-9]+: error: ") {
+            failing = substr($0, RSTART + length("/must-fail/" crate "/"), RLENGTH)
+            sub(/^[^\/]*\/proofs\//, "", failing)
             sub(/\/Proof\.antt:.*/, "", failing)
         }
         { text = text " " $0 }

@@ -1,13 +1,13 @@
 -- `limits::width_limit` meets its contract: the first limit, six alike, and the last by the first width.
 -- Assumes nothing.
 use mathlib.Core.Path.{_≡_, refl, sym, ap, _∙_}
-use mathlib.Core.Bool.{true, cond, not, _&&_, _||_}
+use mathlib.Core.Bool.{true, not, _&&_, _||_}
 use Prim.Native.Nat.{ℕ, _≤_, _<_}
 use native.Mathlib.Omega.{arith}
-use borrow.Author.Tests.{lt-ltb, le-ltb, le-leb, eqb-true}
+use borrow.Author.Tests.{lt-ltb, le-leb, ltb-true, ltb-false, eqb-true}
 use lib.Dec.{leb, ltb, eqb}
 use lib.ListN.{getD, List·getD-eq-default}
-use Rattle.laws.proofs.Tests.{both, chosen, not-chosen, not-fails, holds-other}
+use Rattle.laws.proofs.Tests.{both, not-fails, holds-other, decided}
 use Rattle.laws.proofs.Table.{at}
 use Rattle.histogram.specs.Bucket.{firstFree, limitsOf}
 use Rattle.limits.proofs.width_limit.Statement.{statement}
@@ -19,8 +19,10 @@ middle first k h l =
     let t : (leb 1 k && ltb k 7) ≡ true = both (leb 1 k) _ (le-leb 1 k h) (lt-ltb k 7 l) in
     sym (eqb-true _ 511 (holds-other (not (leb 1 k && ltb k 7)) _ (at (λ k x. not (leb 1 k && ltb k 7) || eqb x 511) (limitsOf first) refl k (omega arith)) (not-fails _ t)))
 
-last : (first k : ℕ) → k ≡ 7 → getD (limitsOf first) k 0 ≡ cond (firstFree first) 511 4095
-last first k e = ap (λ (k : ℕ). getD (limitsOf first) k 0) e
+-- the last limit, by the first width
+last : (first k v : ℕ) → k ≡ 7 → (511 < first → v ≡ 511) → (first ≤ 511 → v ≡ 4095) → v ≡ getD (limitsOf first) k 0
+last first k v e f g =
+    decided (firstFree first) v 511 4095 (λ t. f (ltb-true 511 first t)) (λ t. g (ltb-false 511 first t)) ∙ sym (ap (λ (k : ℕ). getD (limitsOf first) k 0) e)
 
 returns : tie.Need-returns
 returns c = ap (λ (k : ℕ). getD (limitsOf (c .before .args .first)) k 0) {x = 0} {y = c .before .args .k} (omega arith)
@@ -32,14 +34,10 @@ returns-3 : tie.Need-returns-3
 returns-3 c = let a = c .before .before .before .args in sym (List·getD-eq-default (limitsOf (a .first)) 0 {n = a .k} (omega arith))
 
 returns-4 : tie.Need-returns-4
-returns-4 c =
-    let a = c .before .before .before .before .args in
-    chosen (firstFree (a .first)) 511 4095 (lt-ltb 511 (a .first) (omega arith)) ∙ sym (last (a .first) (a .k) (omega arith))
+returns-4 c = let a = c .before .before .before .before .args in last (a .first) (a .k) _ (omega arith) (λ h. omega arith) (λ h. omega arith)
 
 returns-5 : tie.Need-returns-5
-returns-5 c =
-    let a = c .before .before .before .before .args in
-    not-chosen (firstFree (a .first)) 511 4095 (le-ltb 511 (a .first) (omega arith)) ∙ sym (last (a .first) (a .k) (omega arith))
+returns-5 c = let a = c .before .before .before .before .args in last (a .first) (a .k) _ (omega arith) (λ h. omega arith) (λ h. omega arith)
 
 pub width-limit-spec : {M : Type 1} → statement M
 width-limit-spec = tie.close (tie.spec returns returns-2 returns-3 returns-4 returns-5)
