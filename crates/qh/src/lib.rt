@@ -6,6 +6,7 @@ use build::Built;
 use counts::Coded;
 use counts::Meaning;
 use finding::Place;
+use verdict::Failing;
 use verdict::Sort;
 use verdict::Verdict;
 ghost use mathlib.Core.Path.{_≡_};
@@ -14,7 +15,8 @@ ghost use Rattle.counts.specs.Reply.{codedReply, meaningReply};
 ghost use Rattle.counts.specs.Reply.{classReply, classMeaning, totalReply, totalMeaning};
 ghost use Rattle.layout.specs.Finding.{findReply};
 ghost use Rattle.histogram.specs.Building.{buildReply, written};
-ghost use Rattle.verdict.specs.Reply.{sortNumber};
+ghost use Rattle.verdict.specs.declared.Verdict.the-variants.{Fails};
+ghost use Rattle.verdict.specs.Reply.{sortNumber, verdictReply};
 ghost use Rattle.verdict.specs.Checking.{checkReply};
 ghost use Rattle.estimate.specs.Asking.{estimateReply};
 ghost use Rattle.exam.specs.Sheet.{sheet, filled};
@@ -150,6 +152,14 @@ fn answer(refusal: u32, accepted: u32, sort: u32, start: u32, end: u32) -> QhVer
     }
 }
 
+// What fails first.
+fn failed(failing: Failing) -> QhVerdict
+    ensures { λ r. ⌜ r ≡ verdictStruct (verdictReply (Fails failing)) ⌝ }
+{
+    let sort = failing.sort;
+    answer(0, 0, number_of(sort), failing.start, failing.end)
+}
+
 // Whether a histogram is accepted for a list, and else what fails first; refused with 1 to 3 and 7 to 13.
 #[no_mangle]
 pub extern "C" fn qh_check(freqs: &[u32], words: &[u32]) -> QhVerdict
@@ -158,10 +168,7 @@ pub extern "C" fn qh_check(freqs: &[u32], words: &[u32]) -> QhVerdict
     match verify::check(freqs, words) {
         Verdict::Refused(refusal) => answer(refusal, 0, 0, 0, 0),
         Verdict::Accepted => answer(0, 1, 0, 0, 0),
-        Verdict::Fails(failing) => {
-            let sort = failing.sort;
-            answer(0, 0, number_of(sort), failing.start, failing.end)
-        }
+        Verdict::Fails(failing) => failed(failing),
     }
 }
 

@@ -2,8 +2,7 @@
 -- Assumes nothing.
 use mathlib.Core.Path.{sym, ap, _∙_}
 use borrow.Author.Needs.{needs}
-use Prim.Native.Nat.{ℕ}
-use Rattle.verdict.specs.Reply.{failedAnswer, verdictReply}
+use Rattle.verdict.specs.Reply.{verdictReply}
 use Rattle.qh.specs.Results.{verdictStruct}
 use Rattle.qh.proofs.qh_check.Statement.{statement}
 use Rattle.qh.proofs.qh_check.Tie as tie
@@ -26,11 +25,8 @@ answer-requires-2 c κs = search needs
 enum-known-failing : tie.Need-enum-known-failing
 enum-known-failing c = search needs
 
-number-of-requires : tie.Need-number-of-requires
-number-of-requires c κs = search needs
-
-answer-requires-3 : tie.Need-answer-requires-3
-answer-requires-3 c κs = search needs
+failed-requires : tie.Need-failed-requires
+failed-requires c κs = search needs
 
 returns : tie.Need-returns
 returns c =
@@ -43,12 +39,8 @@ returns-2 c =
 
 returns-3 : tie.Need-returns-3
 returns-3 c =
-    let f = c .before .before .before .failing .given in
-    c .answer3 .ensures
-    ∙ ap verdictStruct
-    (ap (λ (n : ℕ). failedAnswer n (f .0 .0 .start) (f .0 .0 .end)) (c .before .number-of .ensures)
-    ∙ ap verdictReply (sym (f .1))
-    ∙ c .before .before .before .before .before .check .ensures .0)
+    c .failed .ensures
+    ∙ ap verdictStruct (ap verdictReply (sym (c .before .before .failing .given .1)) ∙ c .before .before .before .before .check .ensures .0)
 
 pub qh-check-spec : {M : Type 1} → statement M
 qh-check-spec =
@@ -60,8 +52,7 @@ qh-check-spec =
     enum-told
     answer-requires-2
     enum-known-failing
-    number-of-requires
-    answer-requires-3
+    failed-requires
     returns
     returns-2
     returns-3)
