@@ -3,8 +3,10 @@
 use mathlib.Core.Path.{_≡_, refl, sym}
 use mathlib.Core.Bool.{Bool, true, false, cond, not, _&&_, _||_}
 use mathlib.Core.Logic.{_⊎_, inl, inr}
-use Prim.Native.Nat.{ℕ}
+use Prim.Native.Nat.{ℕ, _≤_, _<_}
 use native.Mathlib.Omega.{arith}
+use borrow.Author.Tests.{eqb-true, eqb-false, leb-true, leb-false, ltb-true, ltb-false}
+use lib.Dec.{eqb, leb, ltb}
 
 pub true-not-false : {t : Bool} → t ≡ true → t ≡ false → ⊥
 true-not-false p q = let z : _≡_ {A = ℕ} 0 1 = cc in omega arith
@@ -109,7 +111,17 @@ pub not-chosen {ℓ} : {A : Type ℓ} (t : Bool) (x y : A) → t ≡ false → y
 not-chosen true x y p = absurd (true-not-false refl p)
 not-chosen false x y p = refl
 
--- and what it gives, whichever way the test went
-pub decided : (t : Bool) (v x y : ℕ) → (t ≡ true → v ≡ x) → (t ≡ false → v ≡ y) → v ≡ cond t x y
+-- what a choice by a comparison gives, whichever way it went
+decided : (t : Bool) (v x y : ℕ) → (t ≡ true → v ≡ x) → (t ≡ false → v ≡ y) → v ≡ cond t x y
 decided true v x y p q = p refl
 decided false v x y p q = q refl
+
+module _ (a b v x y : ℕ) where
+  pub by-eq : (a ≡ b → v ≡ x) → ((a ≡ b → ⊥) → v ≡ y) → v ≡ cond (eqb a b) x y
+  by-eq p q = decided (eqb a b) v x y (λ t. p (eqb-true a b t)) (λ t. q (eqb-false a b t))
+
+  pub by-le : (a ≤ b → v ≡ x) → (b < a → v ≡ y) → v ≡ cond (leb a b) x y
+  by-le p q = decided (leb a b) v x y (λ t. p (leb-true a b t)) (λ t. q (leb-false a b t))
+
+  pub by-lt : (a < b → v ≡ x) → (b ≤ a → v ≡ y) → v ≡ cond (ltb a b) x y
+  by-lt p q = decided (ltb a b) v x y (λ t. p (ltb-true a b t)) (λ t. q (ltb-false a b t))

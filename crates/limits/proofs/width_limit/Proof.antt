@@ -4,12 +4,12 @@ use mathlib.Core.Path.{_≡_, refl, sym, ap, _∙_}
 use mathlib.Core.Bool.{true, not, _&&_, _||_}
 use Prim.Native.Nat.{ℕ, _≤_, _<_}
 use native.Mathlib.Omega.{arith}
-use borrow.Author.Tests.{lt-ltb, le-leb, ltb-true, ltb-false, eqb-true}
+use borrow.Author.Tests.{lt-ltb, le-leb, eqb-true}
 use lib.Dec.{leb, ltb, eqb}
 use lib.ListN.{getD, List·getD-eq-default}
-use Rattle.laws.proofs.Tests.{both, not-fails, holds-other, decided}
+use Rattle.laws.proofs.Tests.{both, not-fails, holds-other, by-lt}
 use Rattle.laws.proofs.Table.{at}
-use Rattle.histogram.specs.Bucket.{firstFree, limitsOf}
+use Rattle.histogram.specs.Bucket.{limitsOf}
 use Rattle.limits.proofs.width_limit.Statement.{statement}
 use Rattle.limits.proofs.width_limit.Tie as tie
 
@@ -21,8 +21,7 @@ middle first k h l =
 
 -- the last limit, by the first width
 last : (first k v : ℕ) → k ≡ 7 → (511 < first → v ≡ 511) → (first ≤ 511 → v ≡ 4095) → v ≡ getD (limitsOf first) k 0
-last first k v e f g =
-    decided (firstFree first) v 511 4095 (λ t. f (ltb-true 511 first t)) (λ t. g (ltb-false 511 first t)) ∙ sym (ap (λ (k : ℕ). getD (limitsOf first) k 0) e)
+last first k v e f g = by-lt 511 first v 511 4095 f g ∙ sym (ap (λ (k : ℕ). getD (limitsOf first) k 0) e)
 
 returns : tie.Need-returns
 returns c = ap (λ (k : ℕ). getD (limitsOf (c .before .args .first)) k 0) {x = 0} {y = c .before .args .k} (omega arith)
