@@ -152,7 +152,7 @@ fn answer(refusal: u32, accepted: u32, sort: u32, start: u32, end: u32) -> QhVer
     }
 }
 
-// What fails first.
+// The answer for what fails first.
 fn failed(failing: Failing) -> QhVerdict
     ensures { λ r. ⌜ r ≡ verdictStruct (verdictReply (Fails failing)) ⌝ }
 {
