@@ -41,7 +41,7 @@ form_phrases=(
 )
 
 # The records of specs/ without parameters that are data, as CRATE/RECORD. Any other is a claim, or a set of worked examples.
-data_records=(coding/Base exam/Lines laws/Reply laws/Sentence verdict/Answer)
+data_records=(counts_rules/Base sheet_rules/Lines laws/Reply laws/Sentence check_rules/Answer)
 
 # Prints a fault and counts it in the variable `faults` of the check that calls this.
 fault() {

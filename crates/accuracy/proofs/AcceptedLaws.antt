@@ -13,14 +13,14 @@ use Rattle.laws.specs.Sums.{partSum}
 use Rattle.laws.proofs.EachLaws.{each-at}
 use Rattle.laws.proofs.RefusalLaws.{numbered, append-first, append-passed}
 use Rattle.laws.proofs.Tests.{both-left, both-right, holds-other}
-use Rattle.coding.specs.Base.{base}
-use Rattle.coding.specs.Class.{classNumber}
-use Rattle.coding.specs.Total.{totalNumber}
-use Rattle.layout.specs.Words.{buckets, start, span}
-use Rattle.layout.specs.Decoded.{bucketAt, classAt, bucketletStart}
-use Rattle.layout.specs.Reading.{reading, Readable}
+use Rattle.counts_rules.specs.Base.{base}
+use Rattle.counts_rules.specs.Class.{classNumber}
+use Rattle.counts_rules.specs.Total.{totalNumber}
+use Rattle.words_rules.specs.Words.{buckets, start, span}
+use Rattle.words_rules.specs.Decoded.{bucketAt, classAt, bucketletStart}
+use Rattle.words_rules.specs.Reading.{readSentences, Readable}
 use Rattle.fit.specs.Fit.{bucketletFits}
-use Rattle.fit.specs.Frequencies.{listing}
+use Rattle.list_rules.specs.Frequencies.{listSentences}
 use Rattle.fit.specs.Accepted.{mismatch, checkFault, qualityOf, bucketletGood, bucketGood, accepted}
 use Rattle.fit.proofs.FitLaws.{Near, near-says}
 
@@ -38,8 +38,8 @@ module _ (fs ws : List ℕ) (t : accepted fs ws ≡ true) where
   read : Readable ws
   unfolding numbered
   read =
-      let first = append-first (listing fs ++ reading ws) (record { number = 13; holds = mismatch fs ws } ∷ []) refl no-fault in
-      sym (append-passed (listing fs) (reading ws) refl (append-first (listing fs) (reading ws) refl first)) ∙ first
+      let first = append-first (listSentences fs ++ readSentences ws) (record { number = 13; holds = mismatch fs ws } ∷ []) refl no-fault in
+      sym (append-passed (listSentences fs) (readSentences ws) refl (append-first (listSentences fs) (readSentences ws) refl first)) ∙ first
 
   bucket-good : (b : ℕ) → b < buckets ws → bucketGood (qualityOf ws) fs ws b ≡ true
   unfolding accepted

@@ -8,19 +8,19 @@ use native.Mathlib.Nat.{mul-le-mul-left}
 use native.Mathlib.Omega.{arith}
 use lib.ListN.{getD}
 use Rattle.laws.specs.Sums.{partSum}
-use Rattle.coding.specs.Base.{base}
-use Rattle.coding.specs.Class.{classNumber}
-use Rattle.coding.specs.Total.{totalNumber}
-use Rattle.layout.specs.Words.{entries, theta, qn, qd, buckets, start, end, span}
-use Rattle.layout.specs.Decoded.{bucketAt, classAt, bucketletStart, bucketletEnd}
-use Rattle.layout.proofs.Proved.{histogram}
-use Rattle.layout.proofs.EntryLaws.{bucketlet-end}
+use Rattle.counts_rules.specs.Base.{base}
+use Rattle.counts_rules.specs.Class.{classNumber}
+use Rattle.counts_rules.specs.Total.{totalNumber}
+use Rattle.words_rules.specs.Words.{entries, theta, qn, qd, buckets, start, end, span}
+use Rattle.words_rules.specs.Decoded.{bucketAt, classAt, bucketletStart, bucketletEnd}
+use Rattle.words_rules.proofs.Proved.{histogram}
+use Rattle.words_rules.proofs.EntryLaws.{bucketlet-end}
 use Rattle.fit.specs.Accepted.{qualityOf}
-use Rattle.estimate.specs.Fraction.{number}
-use Rattle.estimate.specs.Exact.{inside, bucketletPiece, exact}
-use Rattle.estimate.proofs.ExactLaws.{inside-says}
-use Rattle.estimate.proofs.CutLaws.{cuts-most}
-use Rattle.estimate.proofs.SpanLaws.{exact-holds}
+use Rattle.estimate_rules.specs.Fraction.{number}
+use Rattle.estimate_rules.specs.Exact.{inside, bucketletPiece, exact}
+use Rattle.estimate_rules.proofs.ExactLaws.{inside-says}
+use Rattle.estimate_rules.proofs.CutLaws.{cuts-most}
+use Rattle.estimate_rules.proofs.SpanLaws.{exact-holds}
 use Rattle.accuracy.proofs.Split.{Split, split-near, split-more, split-as}
 use Rattle.accuracy.proofs.Ranges.{countIn, count-some, count-all, Spanned, spanned-joined}
 use Rattle.accuracy.proofs.Pieces.{bucketlet-spanned}

@@ -10,20 +10,20 @@ use native.Mathlib.Omega.{arith}
 use lib.ListN.{getD}
 use Rattle.laws.specs.Sums.{partSum}
 use Rattle.laws.proofs.Tests.{is-false, tested}
-use Rattle.coding.specs.Base.{base}
-use Rattle.coding.specs.Class.{classNumber}
-use Rattle.layout.specs.declared.Bucket.{Bucket}
-use Rattle.layout.specs.Words.{entries, theta, qn, qd, buckets, start, end}
-use Rattle.layout.specs.Decoded.{bucketAt, classAt, bucketletStart, bucketletEnd}
-use Rattle.layout.proofs.Proved.{histogram}
-use Rattle.layout.proofs.EntryLaws.{bucketlet-end}
+use Rattle.counts_rules.specs.Base.{base}
+use Rattle.counts_rules.specs.Class.{classNumber}
+use Rattle.words_rules.specs.declared.Bucket.{Bucket}
+use Rattle.words_rules.specs.Words.{entries, theta, qn, qd, buckets, start, end}
+use Rattle.words_rules.specs.Decoded.{bucketAt, classAt, bucketletStart, bucketletEnd}
+use Rattle.words_rules.proofs.Proved.{histogram}
+use Rattle.words_rules.proofs.EntryLaws.{bucketlet-end}
 use Rattle.fit.specs.Accepted.{qualityOf}
-use Rattle.estimate.specs.Fraction.{nothing, sumOf, rounded}
-use Rattle.estimate.specs.Exact.{inside, piece, bucketletPiece, bucketPiece, exact}
-use Rattle.estimate.proofs.FractionLaws.{sum-none, sum-one}
-use Rattle.estimate.proofs.ExactLaws.{inside-says, piece-none, bucket-whole, bucket-parts}
-use Rattle.estimate.proofs.CutLaws.{rises, apart}
-use Rattle.estimate.proofs.SpanLaws.{bucketlets-rise, first-bucketlet, last-bucketlet, edge, edge-start, edge-end, edges-rise}
+use Rattle.estimate_rules.specs.Fraction.{nothing, sumOf, rounded}
+use Rattle.estimate_rules.specs.Exact.{inside, piece, bucketletPiece, bucketPiece, exact}
+use Rattle.estimate_rules.proofs.FractionLaws.{sum-none, sum-one}
+use Rattle.estimate_rules.proofs.ExactLaws.{inside-says, piece-none, bucket-whole, bucket-parts}
+use Rattle.estimate_rules.proofs.CutLaws.{rises, apart}
+use Rattle.estimate_rules.proofs.SpanLaws.{bucketlets-rise, first-bucketlet, last-bucketlet, edge, edge-start, edge-end, edges-rise}
 use Rattle.accuracy.proofs.Split.{Split, split-as}
 use Rattle.accuracy.proofs.Ranges.{countIn, count-all}
 use Rattle.accuracy.proofs.Pieces.{bucketlet-above}

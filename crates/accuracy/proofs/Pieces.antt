@@ -11,15 +11,15 @@ use Rattle.laws.specs.Each.{each}
 use Rattle.laws.specs.Sums.{partSum}
 use Rattle.laws.proofs.Tests.{both-left, both-right, tested}
 use Rattle.laws.proofs.EachLaws.{each-at}
-use Rattle.fit.specs.declared.Quality.{Quality}
+use Rattle.list_rules.specs.declared.Quality.{Quality}
 use Rattle.fit.specs.Fit.{near, fits, rangesFit, bucketletFits}
 use Rattle.fit.proofs.FitLaws.{Near, Small, near-says, fits-says}
-use Rattle.estimate.specs.declared.Fraction.{Fraction}
-use Rattle.estimate.specs.Fraction.{number, quotient, rounded}
-use Rattle.estimate.specs.Exact.{inside, overlap, piece}
-use Rattle.estimate.proofs.FractionLaws.{rounded-most}
-use Rattle.estimate.proofs.ExactLaws.{inside-says, piece-none, piece-whole, piece-cut}
-use Rattle.estimate.proofs.CutLaws.{cuts, cut-some}
+use Rattle.estimate_rules.specs.declared.Fraction.{Fraction}
+use Rattle.estimate_rules.specs.Fraction.{number, quotient, rounded}
+use Rattle.estimate_rules.specs.Exact.{inside, overlap, piece}
+use Rattle.estimate_rules.proofs.FractionLaws.{rounded-most}
+use Rattle.estimate_rules.proofs.ExactLaws.{inside-says, piece-none, piece-whole, piece-cut}
+use Rattle.estimate_rules.proofs.CutLaws.{cuts, cut-some}
 use Rattle.accuracy.proofs.Split.{Split, split-near, split-small, split-nothing, split-more, split-as}
 use Rattle.accuracy.proofs.Ranges.{countIn, count-none, count-some, Spanned}
 

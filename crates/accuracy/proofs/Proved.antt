@@ -7,18 +7,18 @@ use native.Mathlib.Omega.{arith}
 use lib.ListN.{length}
 use Rattle.laws.specs.Refusal.{refusal}
 use Rattle.laws.specs.Reply.{Reply}
-use Rattle.layout.specs.Words.{entries, theta, qn, qd}
-use Rattle.layout.proofs.Proved.{histogram}
+use Rattle.words_rules.specs.Words.{entries, theta, qn, qd}
+use Rattle.words_rules.proofs.Proved.{histogram}
 use Rattle.fit.specs.Accepted.{accepted}
-use Rattle.histogram.specs.Words.{words}
-use Rattle.histogram.specs.Building.{quality, inputs}
-use Rattle.histogram.proofs.SoundLaws.{sound-of}
-use Rattle.histogram.proofs.ReadBack.{entries-are, theta-is, qn-is, qd-is}
-use Rattle.histogram.proofs.Proved.{building}
-use Rattle.estimate.specs.Fraction.{rounded}
-use Rattle.estimate.specs.Exact.{exact}
-use Rattle.estimate.specs.Asking.{estimate}
-use Rattle.estimate.proofs.AskingLaws.{reply-is}
+use Rattle.build_rules.specs.Words.{words}
+use Rattle.list_rules.specs.Quality.{quality, inputSentences}
+use Rattle.list_rules.proofs.SoundLaws.{sound-of}
+use Rattle.build_rules.proofs.ReadBack.{entries-are, theta-is, qn-is, qd-is}
+use Rattle.build_rules.proofs.Proved.{building}
+use Rattle.estimate_rules.specs.Fraction.{rounded}
+use Rattle.estimate_rules.specs.Exact.{exact}
+use Rattle.estimate_rules.specs.Asking.{estimate}
+use Rattle.estimate_rules.proofs.AskingLaws.{reply-is}
 use Rattle.accuracy.specs.Claims.{count, answer, Within, Accurate, Accuracy}
 use Rattle.accuracy.proofs.Split.{Split, split-within}
 use Rattle.accuracy.proofs.AcceptedLaws.{Fitting, fitting}
@@ -65,7 +65,7 @@ module _ (fs ws : List ℕ) (ok : Fitting fs ws) where
 pub accuracy : Accuracy
 accuracy = record { of-accepted = λ fs ws t. accurate fs ws (fitting fs ws t); of-built = built }
   where
-    built : (fs : List ℕ) (theta qn qd : ℕ) → refusal (inputs fs theta qn qd) ≡ 0 → Accurate fs (words (quality theta qn qd) fs) (length fs) theta qn qd
+    built : (fs : List ℕ) (theta qn qd : ℕ) → refusal (inputSentences fs theta qn qd) ≡ 0 → Accurate fs (words (quality theta qn qd) fs) (length fs) theta qn qd
     built fs theta qn qd e =
         let q = quality theta qn qd in
         let s = sound-of fs theta qn qd e in

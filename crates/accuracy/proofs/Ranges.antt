@@ -7,11 +7,11 @@ use native.Mathlib.Nat.{mul-le-mul-left, sub-eq-zero-of-le}
 use native.Mathlib.Omega.{arith}
 use Rattle.laws.specs.Sums.{partSum}
 use Rattle.laws.proofs.SumsLaws.{part-add}
-use Rattle.estimate.specs.declared.Fraction.{Fraction}
-use Rattle.estimate.specs.Fraction.{nothing, plus}
-use Rattle.estimate.specs.Exact.{overlap}
-use Rattle.estimate.proofs.CutLaws.{cuts, cuts-join}
-use Rattle.estimate.proofs.SpanLaws.{Joined}
+use Rattle.estimate_rules.specs.declared.Fraction.{Fraction}
+use Rattle.estimate_rules.specs.Fraction.{nothing, plus}
+use Rattle.estimate_rules.specs.Exact.{overlap}
+use Rattle.estimate_rules.proofs.CutLaws.{cuts, cuts-join}
+use Rattle.estimate_rules.proofs.SpanLaws.{Joined}
 use Rattle.accuracy.proofs.Split.{Split, split-nothing, split-more, split-add}
 
 -- the place of the range that is nearest to t

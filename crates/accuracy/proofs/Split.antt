@@ -5,9 +5,9 @@ use mathlib.Core.Logic.{_⊎_, inl, inr, ⊎-elim}
 use Prim.Native.Nat.{ℕ, zero, suc, _+_, _-_, _*_, _≤_, _<_}
 use native.Mathlib.Nat.{mul-le-mul-right, mul-pos, mul-lt-mul-of-pos-right, le-of-mul-le-mul-right, lt-of-mul-lt-mul-right}
 use native.Mathlib.Omega.{arith}
-use Rattle.estimate.specs.declared.Fraction.{Fraction}
-use Rattle.estimate.specs.Fraction.{nothing, plus, rounded}
-use Rattle.estimate.proofs.FractionLaws.{numerator, rounded-reaches, rounded-tight}
+use Rattle.estimate_rules.specs.declared.Fraction.{Fraction}
+use Rattle.estimate_rules.specs.Fraction.{nothing, plus, rounded}
+use Rattle.estimate_rules.proofs.FractionLaws.{numerator, rounded-reaches, rounded-tight}
 use Rattle.accuracy.specs.Claims.{Within}
 use Rattle.accuracy.proofs.Parts.{Parts, Factor, factor, parts-more, parts-scale, parts-add}
 

@@ -9,18 +9,18 @@ use native.Mathlib.Omega.{arith}
 use lib.ListN.{getD}
 use Rattle.laws.specs.Sums.{partSum}
 use Rattle.laws.proofs.Tests.{tested}
-use Rattle.coding.specs.Base.{base}
-use Rattle.coding.specs.Class.{classNumber}
-use Rattle.layout.specs.Words.{entries, theta, qn, qd, buckets, start, end}
-use Rattle.layout.specs.Decoded.{bucketAt, classAt, bucketletStart}
-use Rattle.layout.proofs.EntryLaws.{bucketlet-end}
+use Rattle.counts_rules.specs.Base.{base}
+use Rattle.counts_rules.specs.Class.{classNumber}
+use Rattle.words_rules.specs.Words.{entries, theta, qn, qd, buckets, start, end}
+use Rattle.words_rules.specs.Decoded.{bucketAt, classAt, bucketletStart}
+use Rattle.words_rules.proofs.EntryLaws.{bucketlet-end}
 use Rattle.fit.specs.Accepted.{qualityOf}
-use Rattle.estimate.specs.declared.Fraction.{Fraction}
-use Rattle.estimate.specs.Fraction.{rounded}
-use Rattle.estimate.specs.Exact.{inside, bucketletPiece, bucketPiece, exact}
-use Rattle.estimate.proofs.FractionLaws.{numerator, rounded-whole, sum-whole}
-use Rattle.estimate.proofs.ExactLaws.{bucket-whole, bucket-parts}
-use Rattle.estimate.proofs.CutLaws.{cuts, cuts-none}
+use Rattle.estimate_rules.specs.declared.Fraction.{Fraction}
+use Rattle.estimate_rules.specs.Fraction.{rounded}
+use Rattle.estimate_rules.specs.Exact.{inside, bucketletPiece, bucketPiece, exact}
+use Rattle.estimate_rules.proofs.FractionLaws.{numerator, rounded-whole, sum-whole}
+use Rattle.estimate_rules.proofs.ExactLaws.{bucket-whole, bucket-parts}
+use Rattle.estimate_rules.proofs.CutLaws.{cuts, cuts-none}
 use Rattle.accuracy.specs.Claims.{CutsNone}
 use Rattle.accuracy.proofs.Parts.{Factor, factor-sure}
 use Rattle.accuracy.proofs.Split.{split-more}

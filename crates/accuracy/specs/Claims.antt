@@ -16,12 +16,12 @@ use Prim.Native.Nat.{ℕ, _-_, _*_, _≤_, _<_}
 use lib.ListN.{length}
 use Rattle.laws.specs.Refusal.{refusal}
 use Rattle.laws.specs.Sums.{partSum}
-use Rattle.layout.specs.Words.{entries, theta, qn, qd, buckets}
-use Rattle.layout.specs.Decoded.{bucketAt, bucketletStart, bucketletEnd}
+use Rattle.words_rules.specs.Words.{entries, theta, qn, qd, buckets}
+use Rattle.words_rules.specs.Decoded.{bucketAt, bucketletStart, bucketletEnd}
 use Rattle.fit.specs.Accepted.{accepted}
-use Rattle.histogram.specs.Words.{words}
-use Rattle.histogram.specs.Building.{quality, inputs}
-use Rattle.estimate.specs.Asking.{estimateReply}
+use Rattle.build_rules.specs.Words.{words}
+use Rattle.list_rules.specs.Quality.{quality, inputSentences}
+use Rattle.estimate_rules.specs.Asking.{estimateReply}
 
 -- the true count of the range from x to y
 abbrev pub count : List ℕ → ℕ → ℕ → ℕ
@@ -60,5 +60,5 @@ pub record Accuracy : Type 0 where
   -- a histogram that is accepted for a list, with its own theta and q
   pub of-accepted : (fs ws : List ℕ) → accepted fs ws ≡ true → Accurate fs ws (entries ws) (theta ws) (qn ws) (qd ws)
   -- what the builder writes, with the theta and q that it is given: it is accepted for its list
-  pub of-built : (fs : List ℕ) (theta qn qd : ℕ) → refusal (inputs fs theta qn qd) ≡ 0
+  pub of-built : (fs : List ℕ) (theta qn qd : ℕ) → refusal (inputSentences fs theta qn qd) ≡ 0
       → Accurate fs (words (quality theta qn qd) fs) (length fs) theta qn qd

@@ -1,9 +1,9 @@
 // What the checker and the estimator answer: what each case is, the figure expected and the figure that came.
 
-use asking::Asked;
+use check_rules::Sort;
+use check_rules::Verdict;
+use estimator::Asked;
 use libc::STDOUT_FILENO;
-use verdict::Sort;
-use verdict::Verdict;
 
 struct Answer {
     refusal: u32,
@@ -83,7 +83,7 @@ fn given(asked: Asked) -> Estimated {
 
 // A list that is checked; sort 0 is accepted.
 fn check(what: &[u8], freqs: &[u32], words: &[u32], expected: Answer) {
-    let got = answered(verify::check(freqs, words));
+    let got = answered(checker::check(freqs, words));
     report(what, expected.refusal as u64, got.refusal as u64);
     report(b"  sort", expected.sort as u64, got.sort as u64);
     report(b"  start", expected.start as u64, got.start as u64);
@@ -109,7 +109,7 @@ fn fails(sort: u32, start: u32, end: u32) -> Answer {
 }
 
 fn ask(what: &[u8], words: &[u32], x: u32, y: u32, refusal: u32, estimate: u64) {
-    let got = given(asking::estimate(words, x, y));
+    let got = given(estimator::estimate(words, x, y));
     report(what, refusal as u64, got.refusal as u64);
     report(b"  estimate", estimate, got.estimate);
 }

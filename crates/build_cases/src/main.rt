@@ -1,6 +1,6 @@
 // Lists that the builder is given, and what it makes of them: what each is, the figure expected and the figure that came.
 
-use build::Built;
+use builder::Built;
 use libc::STDOUT_FILENO;
 
 struct Reply {
@@ -48,7 +48,7 @@ fn replied(built: Built) -> Reply {
 // A list that is refused, or the number of words that come. The first word that is not written keeps its contents.
 fn case(what: &[u8], freqs: &[u32], theta: u32, qn: u32, qd: u32, refusal: u32, words: u32) {
     let mut lent = [OLD; 16];
-    let got = replied(build::build(freqs, theta, qn, qd, &mut lent));
+    let got = replied(builder::build(freqs, theta, qn, qd, &mut lent));
     report(what, refusal, got.refusal);
     report(b"  words", words, got.words);
     if refusal == 0 {
@@ -61,7 +61,7 @@ fn case(what: &[u8], freqs: &[u32], theta: u32, qn: u32, qd: u32, refusal: u32, 
 // The nine words of a list of one bucket.
 fn list(what: &[u8], freqs: &[u32], theta: u32, qn: u32, qd: u32, words: [u32; 9]) {
     let mut lent = [OLD; 16];
-    let got = replied(build::build(freqs, theta, qn, qd, &mut lent));
+    let got = replied(builder::build(freqs, theta, qn, qd, &mut lent));
     report(what, 0, got.refusal);
     report(b"  word 0", words[0], lent[0]);
     report(b"  word 1", words[1], lent[1]);
@@ -86,7 +86,7 @@ fn widths(
     expected: [u32; 8],
 ) {
     let mut lent = [OLD; 16];
-    let got = replied(build::build(freqs, theta, qn, qd, &mut lent));
+    let got = replied(builder::build(freqs, theta, qn, qd, &mut lent));
     report(what, 0, got.refusal);
     let decoded = words::bucket_at(&lent, bucket);
     report(b"  width 0", expected[0], decoded.widths[0]);
@@ -210,7 +210,7 @@ fn limits_of_the_list() {
 
 // Four tens, whose histogram has nine words, with a list lent for it.
 fn lent(what: &[u8], out: &mut [u32], refusal: u32, words: u32) {
-    let got = replied(build::build(&[10, 10, 10, 10], 1, 3, 2, out));
+    let got = replied(builder::build(&[10, 10, 10, 10], 1, 3, 2, out));
     report(what, refusal, got.refusal);
     report(b"  words", words, got.words);
 }
@@ -329,13 +329,13 @@ fn flags() {
     report(
         b"511 equal entries",
         0,
-        replied(build::build(&tens[..511], 1, 2, 1, &mut words)).refusal,
+        replied(builder::build(&tens[..511], 1, 2, 1, &mut words)).refusal,
     );
     report(b"  word 4", 0x400003FF, words[4]);
     report(
         b"512 equal entries",
         0,
-        replied(build::build(&tens, 1, 2, 1, &mut words)).refusal,
+        replied(builder::build(&tens, 1, 2, 1, &mut words)).refusal,
     );
     report(b"  word 4", 0x40000000, words[4]);
 }

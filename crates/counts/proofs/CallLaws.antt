@@ -3,9 +3,9 @@
 use mathlib.Core.Path.{_≡_, ap, _∙_}
 use mathlib.Core.Bool.{Bool, true, cond}
 use Prim.Native.Nat.{ℕ, _≤_}
-use Rattle.coding.specs.Base.{base, limit, countable, usedClass}
-use Rattle.coding.specs.Class.{classOf, classNumber}
-use Rattle.coding.specs.Total.{totalCode, totalNumber, validCode}
+use Rattle.counts_rules.specs.Base.{base, limit, countable, usedClass}
+use Rattle.counts_rules.specs.Class.{classOf, classNumber}
+use Rattle.counts_rules.specs.Total.{totalCode, totalNumber, validCode}
 use Rattle.laws.specs.Reply.{Reply, answered, refused}
 use Rattle.counts.specs.Reply.{classReply, totalReply, classMeaning, totalMeaning}
 use Rattle.counts.proofs.CountLaws.{in-range}

@@ -16,13 +16,13 @@ use Rattle.laws.specs.Reply.{answered, refused, caseOf}
 use Rattle.laws.proofs.EachLaws.{each-at}
 use Rattle.laws.proofs.ReplyLaws.{answered-case, refused-case}
 use Rattle.laws.proofs.Tests.{true-not-false, both, both-left, both-right, is-false, same-test}
-use Rattle.coding.specs.Base.{base, limit, countable, usedClass}
-use Rattle.coding.specs.Class.{classOf, classStart, classNumber}
-use Rattle.coding.specs.Total.{shift, bits, totalCode, middle, totalNumber, codeBits, codeShift, validFields, validCode}
-use Rattle.coding.proofs.ClassLaws.{Reached, class-eq, start-is, reached-up, reached-down}
-use Rattle.coding.proofs.BaseLaws.{used-says, reached-by-two, reached-small}
-use Rattle.coding.proofs.TotalLaws.{Valid, shift-eq, shift-small, bits-small, valid-says, says-valid, number-small}
-use Rattle.tables.specs.Entries.{startOf, numberOf, middleOf}
+use Rattle.counts_rules.specs.Base.{base, limit, countable, usedClass}
+use Rattle.counts_rules.specs.Class.{classOf, classStart, classNumber}
+use Rattle.counts_rules.specs.Total.{shift, bits, totalCode, middle, totalNumber, codeBits, codeShift, validFields, validCode}
+use Rattle.counts_rules.proofs.ClassLaws.{Reached, class-eq, start-is, reached-up, reached-down}
+use Rattle.counts_rules.proofs.BaseLaws.{used-says, reached-by-two, reached-small}
+use Rattle.counts_rules.proofs.TotalLaws.{Valid, shift-eq, shift-small, bits-small, valid-says, says-valid, number-small}
+use Rattle.counts_tables.specs.Entries.{startOf, numberOf, middleOf}
 
 -- ---- a test decides between the answer and the refusal
 

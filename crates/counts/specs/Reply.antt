@@ -3,9 +3,9 @@
 use mathlib.Core.Bool.{cond}
 use Prim.Native.Nat.{ℕ}
 use Rattle.laws.specs.Reply.{Reply, answered, refused, caseOf}
-use Rattle.coding.specs.Base.{base, countable, usedClass}
-use Rattle.coding.specs.Class.{classOf, classNumber}
-use Rattle.coding.specs.Total.{totalCode, totalNumber, validCode}
+use Rattle.counts_rules.specs.Base.{base, countable, usedClass}
+use Rattle.counts_rules.specs.Class.{classOf, classNumber}
+use Rattle.counts_rules.specs.Total.{totalCode, totalNumber, validCode}
 use Rattle.counts.specs.declared.Coded.{Coded}
 use Rattle.counts.specs.declared.Coded.the-variants.{Code, Refused as NotCoded}
 use Rattle.counts.specs.declared.Meaning.{Meaning}

@@ -4,12 +4,11 @@ ghost use mathlib.Core.Path.{_≡_};
 ghost use mathlib.Core.Bool.{cond};
 ghost use Prim.Native.Nat.{_≤_, _<_};
 ghost use lib.Dec.{leb, eqb};
-ghost use Rattle.coding.specs.Base.{base, limit};
-ghost use Rattle.coding.specs.Class.{classOf};
-ghost use Rattle.coding.specs.Total.{shift, validFields, validCode};
-ghost use Rattle.tables.specs.Entries.{startOf};
-ghost use Rattle.counts.specs.Reply.{codedReply, meaningReply, codedOf, meaningOf};
-ghost use Rattle.counts.specs.Reply.{classReply, classMeaning, totalReply, totalMeaning};
+ghost use Rattle.counts_rules.specs.Base.{base, limit};
+ghost use Rattle.counts_rules.specs.Class.{classOf};
+ghost use Rattle.counts_rules.specs.Total.{shift, validFields, validCode};
+ghost use Rattle.counts_tables.specs.Entries.{startOf};
+ghost use Rattle.counts.specs.Reply.{codedReply, meaningReply, codedOf, meaningOf, classReply, classMeaning, totalReply, totalMeaning};
 
 // The largest count that is coded.
 const LIMIT: u32 = 1073741823;
@@ -30,7 +29,7 @@ pub enum Meaning {
 fn reached(class: u32, count: u32) -> u32
     ensures { λ r. ⌜ (r ≡ cond (leb (startOf class) count) 1 0) × (r ≤ 1) ⌝ }
 {
-    if tables::class_start(class) <= count {
+    if counts_tables::class_start(class) <= count {
         1
     } else {
         0
@@ -75,7 +74,7 @@ pub fn number_of_class(class: u32) -> Meaning
     if 63 <= class {
         return Meaning::Refused;
     }
-    Meaning::Number(tables::class_number(class))
+    Meaning::Number(counts_tables::class_number(class))
 }
 
 // The place of a total's highest set bit less 6, or 0 below 128.
@@ -140,5 +139,5 @@ pub fn number_of_total(code: u32) -> Meaning
     }
     let bits = code >> 5;
     let shift = code & 31;
-    Meaning::Number((bits << shift) + tables::shift_middle(shift))
+    Meaning::Number((bits << shift) + counts_tables::shift_middle(shift))
 }

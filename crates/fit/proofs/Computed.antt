@@ -2,7 +2,7 @@
 use mathlib.Core.Path.{refl}
 use Rattle.laws.specs.Each.{each}
 use Rattle.laws.specs.Search.{first, largest}
-use Rattle.coding.specs.Total.{middle, totalNumber}
+use Rattle.counts_rules.specs.Total.{middle, totalNumber}
 use Rattle.fit.specs.Fit.{rangesFit, bucketletFits}
 use Rattle.fit.specs.Worked.{Worked}
 

@@ -9,9 +9,9 @@ use lib.ListN.{length}
 use Rattle.laws.specs.Refusal.{Sentence, refusal}
 use Rattle.laws.proofs.Tests.{not-holds}
 use Rattle.laws.proofs.RefusalLaws.{numbered, refused, passed, none-left, none-true, append-refused, append-passed, append-first}
-use Rattle.layout.specs.Words.{entries}
-use Rattle.layout.specs.Reading.{reading, readFault, Readable}
-use Rattle.fit.specs.Frequencies.{listing, listFault}
+use Rattle.words_rules.specs.Words.{entries}
+use Rattle.words_rules.specs.Reading.{readSentences, readFault, Readable}
+use Rattle.list_rules.specs.Frequencies.{listSentences, listFault}
 use Rattle.fit.specs.Accepted.{mismatch, checkFault}
 
 -- neither the list nor the words have a fault, and they match
@@ -27,19 +27,19 @@ module _ (fs ws : List ℕ) where
   pub fault-of-list : (listFault fs ≡ 0 → ⊥) → checkFault fs ws ≡ listFault fs
   unfolding numbered
   fault-of-list n =
-      let e = append-refused (listing fs) (reading ws) refl n in
-      append-refused (listing fs ++ reading ws) _ refl (λ z. n (sym e ∙ z)) ∙ e
+      let e = append-refused (listSentences fs) (readSentences ws) refl n in
+      append-refused (listSentences fs ++ readSentences ws) _ refl (λ z. n (sym e ∙ z)) ∙ e
 
   pub fault-of-words : listFault fs ≡ 0 → (readFault ws ≡ 0 → ⊥) → checkFault fs ws ≡ readFault ws
   unfolding numbered
   fault-of-words l n =
-      let e = append-passed (listing fs) (reading ws) refl l in
-      append-refused (listing fs ++ reading ws) _ refl (λ z. n (sym e ∙ z)) ∙ e
+      let e = append-passed (listSentences fs) (readSentences ws) refl l in
+      append-refused (listSentences fs ++ readSentences ws) _ refl (λ z. n (sym e ∙ z)) ∙ e
 
   -- where both are without fault, 13 decides
   thirteen-left : listFault fs ≡ 0 → Readable ws → checkFault fs ws ≡ refusal (thirteen ∷ [])
   unfolding numbered
-  thirteen-left l r = append-passed (listing fs ++ reading ws) _ refl (append-passed (listing fs) (reading ws) refl l ∙ r)
+  thirteen-left l r = append-passed (listSentences fs ++ readSentences ws) _ refl (append-passed (listSentences fs) (readSentences ws) refl l ∙ r)
 
   pub fault-of-length : listFault fs ≡ 0 → Readable ws → (length fs ≡ entries ws → ⊥) → checkFault fs ws ≡ 13
   unfolding mismatch
@@ -52,9 +52,9 @@ module _ (fs ws : List ℕ) where
   pub matching : checkFault fs ws ≡ 0 → Matching fs ws
   unfolding numbered mismatch
   matching e =
-      let b = append-first (listing fs ++ reading ws) _ refl e in
-      let l = append-first (listing fs) (reading ws) refl b in
-      let r = sym (append-passed (listing fs) (reading ws) refl l) ∙ b in
+      let b = append-first (listSentences fs ++ readSentences ws) _ refl e in
+      let l = append-first (listSentences fs) (readSentences ws) refl b in
+      let r = sym (append-passed (listSentences fs) (readSentences ws) refl l) ∙ b in
       record {
         listed = l;
         readable = r;

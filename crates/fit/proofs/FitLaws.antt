@@ -10,7 +10,7 @@ use native.Mathlib.Omega.{arith}
 use borrow.Author.Tests.{leb-true, leb-false, le-leb}
 use lib.Dec.{leb}
 use Rattle.laws.proofs.Tests.{both, both-left, both-right, either, holds-left, holds-right, is-false}
-use Rattle.fit.specs.declared.Quality.{Quality}
+use Rattle.list_rules.specs.declared.Quality.{Quality}
 use Rattle.fit.specs.Fit.{near, fits}
 
 -- what the second half says

@@ -8,26 +8,26 @@ use lib.ListN.{length, getD}
 use Rattle.laws.specs.Each.{each}
 use Rattle.laws.specs.Refusal.{Sentence, refusal}
 use Rattle.laws.specs.Sums.{partSum}
-use Rattle.coding.specs.Base.{base}
-use Rattle.coding.specs.Class.{classNumber}
-use Rattle.coding.specs.Total.{totalNumber}
-use Rattle.layout.specs.declared.Bucket.{Bucket}
-use Rattle.layout.specs.Words.{entries, theta, qn, qd, buckets, start, span}
-use Rattle.layout.specs.Decoded.{bucketAt, classAt, bucketletStart}
-use Rattle.layout.specs.Reading.{reading}
-use Rattle.fit.specs.declared.Quality.{Quality}
+use Rattle.counts_rules.specs.Base.{base}
+use Rattle.counts_rules.specs.Class.{classNumber}
+use Rattle.counts_rules.specs.Total.{totalNumber}
+use Rattle.words_rules.specs.declared.Bucket.{Bucket}
+use Rattle.words_rules.specs.Words.{entries, theta, qn, qd, buckets, start, span}
+use Rattle.words_rules.specs.Decoded.{bucketAt, classAt, bucketletStart}
+use Rattle.words_rules.specs.Reading.{readSentences}
+use Rattle.list_rules.specs.declared.Quality.{Quality}
 use Rattle.fit.specs.Fit.{near, bucketletFits}
-use Rattle.fit.specs.Frequencies.{listing}
+use Rattle.list_rules.specs.Frequencies.{listSentences}
 
 -- 13: the frequency list is not d long
 unfoldable pub mismatch : List ℕ → List ℕ → Bool
 mismatch fs ws = not (eqb (length fs) (entries ws))
 
-abbrev pub checking : List ℕ → List ℕ → List Sentence
-checking fs ws = listing fs ++ reading ws ++ (record { number = 13; holds = mismatch fs ws } ∷ [])
+abbrev pub checkSentences : List ℕ → List ℕ → List Sentence
+checkSentences fs ws = listSentences fs ++ readSentences ws ++ (record { number = 13; holds = mismatch fs ws } ∷ [])
 
 abbrev pub checkFault : List ℕ → List ℕ → ℕ
-checkFault fs ws = refusal (checking fs ws)
+checkFault fs ws = refusal (checkSentences fs ws)
 
 -- the histogram's own theta and q
 abbrev pub qualityOf : List ℕ → Quality

@@ -7,7 +7,7 @@ use Prim.Native.Nat.{ℕ, suc, _+_, _-_, _*_}
 use lib.Dec.{leb}
 use Rattle.laws.specs.Each.{each}
 use Rattle.laws.specs.Sums.{partSum}
-use Rattle.fit.specs.declared.Quality.{Quality}
+use Rattle.list_rules.specs.declared.Quality.{Quality}
 
 -- neither f nor x / w is more than q times the other
 abbrev pub near : Quality → ℕ → ℕ → ℕ → Bool

@@ -1,4 +1,3 @@
 pub mod Fit
-pub mod Frequencies
 pub mod Accepted
 pub mod Worked

@@ -4,7 +4,7 @@ use mathlib.Core.Path.{_≡_}
 use mathlib.Core.Bool.{true, false}
 use mathlib.Core.List.{[], _∷_}
 use Prim.Native.Nat.{ℕ}
-use Rattle.fit.specs.declared.Quality.{Quality}
+use Rattle.list_rules.specs.declared.Quality.{Quality}
 use Rattle.fit.specs.Fit.{near, fits, bucketletFits}
 use Rattle.fit.specs.Accepted.{totalGood}
 

@@ -1,8 +1,1 @@
-// What fits and what is accepted: the definitions, and the type that code and definitions share. There is no code.
-
-// Theta, and q as qn/qd.
-pub struct Quality {
-    pub theta: u64,
-    pub qn: u64,
-    pub qd: u64,
-}
+// What fits and what is accepted: the definitions, and what is proved of them. There is no code.

@@ -1,3 +1,4 @@
+pub mod BetweenLaws
 pub mod Tests
 pub mod SearchLaws
 pub mod Table

@@ -1,3 +1,4 @@
+pub mod Between
 pub mod Search
 pub mod Each
 pub mod Refusal

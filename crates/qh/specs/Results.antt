@@ -2,7 +2,7 @@
 -- Assumes nothing.
 use mathlib.Core.Bool.{cond}
 use Rattle.laws.specs.Reply.{Reply}
-use Rattle.verdict.specs.Reply.{Answer}
+use Rattle.check_rules.specs.Reply.{Answer}
 use Rattle.qh.specs.declared.QhCoded.{QhCoded}
 use Rattle.qh.specs.declared.QhBuilt.{QhBuilt}
 use Rattle.qh.specs.declared.QhVerdict.{QhVerdict}

@@ -1,25 +1,24 @@
 // The calls for programs in C and Rust, under their plain names: a list goes in as pointer and length, an answer comes out as a struct by value.
 // Where a call is refused, all of its answer but the refusal's number is 0.
 
-use asking::Asked;
-use build::Built;
+use builder::Built;
+use check_rules::Failing;
+use check_rules::Sort;
+use check_rules::Verdict;
 use counts::Coded;
 use counts::Meaning;
-use finding::Place;
-use verdict::Failing;
-use verdict::Sort;
-use verdict::Verdict;
+use estimator::Asked;
+use finder::Place;
 ghost use mathlib.Core.Path.{_≡_};
 ghost use lib.ListN.{length};
-ghost use Rattle.counts.specs.Reply.{codedReply, meaningReply};
-ghost use Rattle.counts.specs.Reply.{classReply, classMeaning, totalReply, totalMeaning};
-ghost use Rattle.layout.specs.Finding.{findReply};
-ghost use Rattle.histogram.specs.Building.{buildReply, written};
-ghost use Rattle.verdict.specs.declared.Verdict.the-variants.{Fails};
-ghost use Rattle.verdict.specs.Reply.{sortNumber, verdictReply};
-ghost use Rattle.verdict.specs.Checking.{checkReply};
-ghost use Rattle.estimate.specs.Asking.{estimateReply};
-ghost use Rattle.exam.specs.Sheet.{sheet, filled};
+ghost use Rattle.counts.specs.Reply.{codedReply, meaningReply, classReply, classMeaning, totalReply, totalMeaning};
+ghost use Rattle.words_rules.specs.Finding.{findReply};
+ghost use Rattle.build_rules.specs.Building.{buildReply, written};
+ghost use Rattle.check_rules.specs.declared.Verdict.the-variants.{Fails};
+ghost use Rattle.check_rules.specs.Reply.{sortNumber, verdictReply};
+ghost use Rattle.check_rules.specs.Checking.{checkReply};
+ghost use Rattle.estimate_rules.specs.Asking.{estimateReply};
+ghost use Rattle.sheet_rules.specs.Sheet.{sheet, filled};
 ghost use Rattle.qh.specs.Results.{codedOut, builtOut, estimateOut, foundOut, verdictStruct};
 
 #[repr(C)]
@@ -124,7 +123,7 @@ pub extern "C" fn qh_build(freqs: &[u32], theta: u32, qn: u32, qd: u32, out: &mu
     ensures { λ r. ⌜ builtOut r ≡ buildReply (now (freqs .entry)) theta qn qd (length (now (out .entry))) ⌝ }
     ensures { λ r. ⌜ now (out .exit) ≡ written (now (freqs .entry)) theta qn qd (now (out .entry)) ⌝ }
 {
-    match build::build(freqs, theta, qn, qd, out) {
+    match builder::build(freqs, theta, qn, qd, out) {
         Built::Words(words) => QhBuilt { refusal: 0, words },
         Built::Refused(refusal) => QhBuilt { refusal, words: 0 },
     }
@@ -165,7 +164,7 @@ fn failed(failing: Failing) -> QhVerdict
 pub extern "C" fn qh_check(freqs: &[u32], words: &[u32]) -> QhVerdict
     ensures { λ r. ⌜ r ≡ verdictStruct (checkReply (now (freqs .entry)) (now (words .entry))) ⌝ }
 {
-    match verify::check(freqs, words) {
+    match checker::check(freqs, words) {
         Verdict::Refused(refusal) => answer(refusal, 0, 0, 0, 0),
         Verdict::Accepted => answer(0, 1, 0, 0, 0),
         Verdict::Fails(failing) => failed(failing),
@@ -177,7 +176,7 @@ pub extern "C" fn qh_check(freqs: &[u32], words: &[u32]) -> QhVerdict
 pub extern "C" fn qh_estimate(words: &[u32], x: u32, y: u32) -> QhEstimate
     ensures { λ r. ⌜ estimateOut r ≡ estimateReply (now (words .entry)) x y ⌝ }
 {
-    match asking::estimate(words, x, y) {
+    match estimator::estimate(words, x, y) {
         Asked::Estimate(count) => QhEstimate {
             refusal: 0,
             estimate: count,
@@ -189,12 +188,12 @@ pub extern "C" fn qh_estimate(words: &[u32], x: u32, y: u32) -> QhEstimate
     }
 }
 
-// Where in the list the five words of the entry's bucket begin; refused with 7 to 12 and 15.
+// Where in the list the words of the entry's bucket begin; refused with 7 to 12 and 15.
 #[no_mangle]
 pub extern "C" fn qh_find(words: &[u32], entry: u32) -> QhFound
     ensures { λ r. ⌜ foundOut r ≡ findReply (now (words .entry)) entry ⌝ }
 {
-    match finding::find_place(words, entry) {
+    match finder::find_place(words, entry) {
         Place::At(at) => QhFound { refusal: 0, at },
         Place::Refused(refusal) => QhFound { refusal, at: 0 },
     }
@@ -206,5 +205,5 @@ pub extern "C" fn qh_sheet(input: &[u8], out: &mut [u8; 163840]) -> usize
     ensures { λ r. ⌜ r ≡ length (sheet (now (input .entry))) ⌝ }
     ensures { λ r. ⌜ now (out .exit) ≡ filled (now (out .entry)) (sheet (now (input .entry))) ⌝ }
 {
-    listing::listing(input, out)
+    sheet_text::put_sheet(input, out)
 }

@@ -49,7 +49,7 @@ fn main() {
     }
     let n = read.count;
     let mut out = [0u8; 163840];
-    let printed = listing::listing(&space[..n], &mut out);
+    let printed = sheet_text::put_sheet(&space[..n], &mut out);
     if !io::write_all(STDOUT_FILENO, &out[..printed]) {
         io::write_all(STDERR_FILENO, b"sheet: standard output cannot be written\n");
     }

@@ -20,7 +20,7 @@ fn report(what: &[u8], expected: u32, got: u32) {
 }
 
 fn read(what: &[u8], words: &[u32], expected: u32) {
-    report(what, expected, reading::read_fault(words));
+    report(what, expected, words_reading::read_fault(words));
 }
 
 fn count(n: usize) -> u32 {
@@ -29,8 +29,8 @@ fn count(n: usize) -> u32 {
 
 // The number of an entry's search, and the first word of what it hands back, or how many words that has.
 fn find(what: &[u8], words: &[u32], entry: u32, expected: u32, word: u32) {
-    report(what, expected, finding::find_fault(words, entry));
-    let part = finding::find(words, entry);
+    report(what, expected, finder::find_fault(words, entry));
+    let part = finder::find(words, entry);
     if part.len() == 5 {
         report(b"  its first word", word, part[0]);
     } else {
@@ -222,7 +222,7 @@ fn finds() {
 // A bucket that was decoded and encoded again, and one past the end.
 fn again() {
     let list = two(3, 2, 3, 2);
-    let words = packing::encode(words::bucket_at(&list, 1));
+    let words = words_packing::encode(words::bucket_at(&list, 1));
     report(b"word 0 of bucket 1 again", list[9], words[0]);
     report(b"word 1", list[10], words[1]);
     report(b"word 2", list[11], words[2]);

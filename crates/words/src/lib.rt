@@ -1,12 +1,12 @@
 // What a list of words says: its head, and the span and the content of each of its buckets. Past the end of the list each word reads 0,
 // so that every call has an answer for every list and every number.
 
-use layout::Bucket;
-use layout::Head;
+use words_rules::Bucket;
+use words_rules::Head;
 ghost use mathlib.Core.Path.{_≡_};
 ghost use Prim.Native.Nat.{_<_};
-ghost use Rattle.layout.specs.Words.{word, place, entries, buckets, headOf, fiveWords, start, end, span};
-ghost use Rattle.layout.specs.Decoded.{bucketAt};
+ghost use Rattle.words_rules.specs.Words.{word, place, entries, buckets, headOf, packedAt, start, end, span};
+ghost use Rattle.words_rules.specs.Decoded.{bucketAt};
 
 pub const HEAD_WORDS: usize = 4;
 
@@ -32,11 +32,11 @@ pub fn bucket_count(words: &[u32]) -> u32
     word_at(words, 3)
 }
 
-// What the four head words hold.
+// What the head words hold.
 pub fn head_at(words: &[u32]) -> Head
     ensures { λ r. ⌜ r ≡ headOf (now (words .entry)) ⌝ }
 {
-    unpacking::head_of([
+    words_fields::head_of([
         entry_count(words),
         word_at(words, 1),
         word_at(words, 2),
@@ -44,7 +44,7 @@ pub fn head_at(words: &[u32]) -> Head
     ])
 }
 
-// Word j of bucket b. A number of a bucket that is not below the list's length is past its end, and five times it may not fit.
+// Word j of bucket b. A number of a bucket that is not below the list's length is past its end, and its place may not fit.
 fn bucket_word(words: &[u32], b: usize, j: usize) -> u32
     requires { ⌜ j < 5 ⌝ }
     ensures { λ r. ⌜ r ≡ word (now (words .entry)) (place b j) ⌝ }
@@ -56,9 +56,9 @@ fn bucket_word(words: &[u32], b: usize, j: usize) -> u32
     }
 }
 
-// The five words of bucket b, of which some may be past the end.
-fn five_or_zeros(words: &[u32], b: usize) -> [u32; 5]
-    ensures { λ r. ⌜ r ≡ fiveWords (now (words .entry)) b ⌝ }
+// The words of bucket b, of which some may be past the end.
+fn packed_or_zeros(words: &[u32], b: usize) -> [u32; 5]
+    ensures { λ r. ⌜ r ≡ packedAt (now (words .entry)) b ⌝ }
 {
     [
         bucket_word(words, b, 0),
@@ -69,16 +69,16 @@ fn five_or_zeros(words: &[u32], b: usize) -> [u32; 5]
     ]
 }
 
-// The five words of bucket b. Where all are in the list, one test serves them.
-pub fn five_at(words: &[u32], b: usize) -> [u32; 5]
-    ensures { λ r. ⌜ r ≡ fiveWords (now (words .entry)) b ⌝ }
+// The words of bucket b. Where all are in the list, one test serves them.
+pub fn packed_at(words: &[u32], b: usize) -> [u32; 5]
+    ensures { λ r. ⌜ r ≡ packedAt (now (words .entry)) b ⌝ }
 {
     if words.len() <= b {
-        return five_or_zeros(words, b);
+        return packed_or_zeros(words, b);
     }
     let at = HEAD_WORDS + BUCKET_WORDS * b;
     if words.len() < at + BUCKET_WORDS {
-        return five_or_zeros(words, b);
+        return packed_or_zeros(words, b);
     }
     [
         words[at],
@@ -93,7 +93,7 @@ pub fn five_at(words: &[u32], b: usize) -> [u32; 5]
 pub fn start_at(words: &[u32], b: usize) -> u32
     ensures { λ r. ⌜ r ≡ start (now (words .entry)) b ⌝ }
 {
-    unpacking::start_of(bucket_word(words, b, 0))
+    words_fields::start_of(bucket_word(words, b, 0))
 }
 
 // The entry before which bucket b ends: the next one's start, of the last the number of entries.
@@ -120,5 +120,5 @@ pub fn span_at(words: &[u32], b: usize) -> u32
 pub fn bucket_at(words: &[u32], b: usize) -> Bucket
     ensures { λ r. ⌜ r ≡ bucketAt (now (words .entry)) b ⌝ }
 {
-    unpacking::decode(five_at(words, b), end_at(words, b))
+    words_fields::decode(packed_at(words, b), end_at(words, b))
 }

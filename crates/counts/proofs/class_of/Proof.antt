@@ -2,8 +2,8 @@
 -- Assumes nothing.
 use native.Mathlib.Omega.{arith}
 use borrow.Author.Needs.{needs}
-use Rattle.coding.specs.Base.{base, countable}
-use Rattle.coding.specs.Class.{classOf}
+use Rattle.counts_rules.specs.Base.{base, countable}
+use Rattle.counts_rules.specs.Class.{classOf}
 use Rattle.counts.specs.declared.Coded.the-variants.{Code, Refused}
 use Rattle.counts.specs.Reply.{classReply}
 use Rattle.counts.proofs.CountLaws.{replied, turned-away, in-range, out-of-range}

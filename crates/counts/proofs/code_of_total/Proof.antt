@@ -4,9 +4,9 @@ use Prim.Native.Nat.{_*_, _/_, _%_, _^_}
 use native.Mathlib.Omega.{arith}
 use borrow.Author.Needs.{needs}
 use lib.Bits.{or-comm}
-use Rattle.coding.specs.Base.{countable}
-use Rattle.coding.specs.Total.{totalCode}
-use Rattle.coding.proofs.TotalLaws.{shift-small}
+use Rattle.counts_rules.specs.Base.{countable}
+use Rattle.counts_rules.specs.Total.{totalCode}
+use Rattle.counts_rules.proofs.TotalLaws.{shift-small}
 use Rattle.counts.specs.declared.Coded.the-variants.{Code, Refused}
 use Rattle.counts.specs.Reply.{totalReply}
 use Rattle.counts.proofs.CountLaws.{replied, turned-away, in-range, out-of-range, code-packed, bits-shifted}

@@ -3,9 +3,9 @@
 use mathlib.Core.Path.{_∙_}
 use native.Mathlib.Omega.{arith}
 use borrow.Author.Needs.{needs}
-use Rattle.coding.specs.Base.{base, usedClass}
-use Rattle.coding.specs.Class.{classNumber}
-use Rattle.coding.proofs.BaseLaws.{says-used}
+use Rattle.counts_rules.specs.Base.{base, usedClass}
+use Rattle.counts_rules.specs.Class.{classNumber}
+use Rattle.counts_rules.proofs.BaseLaws.{says-used}
 use Rattle.counts.specs.declared.Meaning.the-variants.{Number, Refused}
 use Rattle.counts.specs.Reply.{classMeaning}
 use Rattle.counts.proofs.CountLaws.{replied, turned-away, not-used, number-in}

@@ -7,7 +7,7 @@ use native.Mathlib.Omega.{arith}
 use borrow.Author.Needs.{needs}
 use borrow.Author.Tests.{not-true, not-false}
 use lib.Bits.{and-mask, and-comm}
-use Rattle.coding.specs.Total.{validCode, totalNumber}
+use Rattle.counts_rules.specs.Total.{validCode, totalNumber}
 use Rattle.counts.specs.declared.Meaning.the-variants.{Number, Refused}
 use Rattle.counts.specs.Reply.{totalMeaning}
 use Rattle.counts.proofs.CountLaws.{replied, turned-away, number-packed}

@@ -3,7 +3,7 @@
 use mathlib.Core.Path.{ap, _∙_}
 use Prim.Native.Nat.{ℕ}
 use borrow.Author.Needs.{needs}
-use Rattle.verdict.specs.Reply.{failedAnswer}
+use Rattle.check_rules.specs.Reply.{failedAnswer}
 use Rattle.qh.specs.Results.{verdictStruct}
 use Rattle.qh.proofs.failed.Statement.{statement}
 use Rattle.qh.proofs.failed.Tie as tie

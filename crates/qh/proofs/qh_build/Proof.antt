@@ -1,8 +1,8 @@
--- `qh::qh_build` meets its contract, by that of `build::build`.
+-- `qh::qh_build` meets its contract, by that of `builder::build`.
 -- Assumes nothing.
 use mathlib.Core.Path.{sym, ap, _∙_}
 use borrow.Author.Needs.{needs}
-use Rattle.build.specs.Built.{builtReply}
+use Rattle.builder.specs.Built.{builtReply}
 use Rattle.qh.proofs.qh_build.Statement.{statement}
 use Rattle.qh.proofs.qh_build.Tie as tie
 

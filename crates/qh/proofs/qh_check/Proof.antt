@@ -1,8 +1,8 @@
--- `qh::qh_check` meets its contract, by that of `verify::check`.
+-- `qh::qh_check` meets its contract, by that of `checker::check`.
 -- Assumes nothing.
 use mathlib.Core.Path.{sym, ap, _∙_}
 use borrow.Author.Needs.{needs}
-use Rattle.verdict.specs.Reply.{verdictReply}
+use Rattle.check_rules.specs.Reply.{verdictReply}
 use Rattle.qh.specs.Results.{verdictStruct}
 use Rattle.qh.proofs.qh_check.Statement.{statement}
 use Rattle.qh.proofs.qh_check.Tie as tie

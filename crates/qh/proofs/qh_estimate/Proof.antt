@@ -1,8 +1,8 @@
--- `qh::qh_estimate` meets its contract, by that of `asking::estimate`.
+-- `qh::qh_estimate` meets its contract, by that of `estimator::estimate`.
 -- Assumes nothing.
 use mathlib.Core.Path.{sym, ap, _∙_}
 use borrow.Author.Needs.{needs}
-use Rattle.asking.specs.Asked.{askedReply}
+use Rattle.estimator.specs.Asked.{askedReply}
 use Rattle.qh.proofs.qh_estimate.Statement.{statement}
 use Rattle.qh.proofs.qh_estimate.Tie as tie
 

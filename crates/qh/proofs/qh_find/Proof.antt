@@ -1,8 +1,8 @@
--- `qh::qh_find` meets its contract, by that of `finding::find_place`.
+-- `qh::qh_find` meets its contract, by that of `finder::find_place`.
 -- Assumes nothing.
 use mathlib.Core.Path.{sym, ap, _∙_}
 use borrow.Author.Needs.{needs}
-use Rattle.finding.specs.Place.{placeReply}
+use Rattle.finder.specs.Place.{placeReply}
 use Rattle.qh.proofs.qh_find.Statement.{statement}
 use Rattle.qh.proofs.qh_find.Tie as tie
 

@@ -6,8 +6,8 @@ use native.Mathlib.Omega.{arith}
 use borrow.Author.Needs.{needs}
 use lib.ListN.{length, length-replicate}
 use lib.Seq.{length-take-le}
-use Rattle.exam.proofs.SheetLaws.{filled-length}
-use Rattle.exam.proofs.Proved.{exam}
+use Rattle.sheet_rules.proofs.SheetLaws.{filled-length}
+use Rattle.sheet_rules.proofs.Proved.{exam}
 use Rattle.sheet.proofs.main.Statement.{statement}
 use Rattle.sheet.proofs.main.Tie as tie
 
@@ -29,16 +29,16 @@ returns c = search needs
 array-share-prefix-space : tie.Need-array-share-prefix-space
 array-share-prefix-space c = search needs
 
-slice-aggregate-listing : tie.Need-slice-aggregate-listing
-slice-aggregate-listing c = let r = c .before .before .before .read-all in sym (length-take-le (r .result .count) (r .last .0) (r .ensures))
+slice-aggregate-put-sheet : tie.Need-slice-aggregate-put-sheet
+slice-aggregate-put-sheet c = let r = c .before .before .before .read-all in sym (length-take-le (r .result .count) (r .last .0) (r .ensures))
 
-listing-requires : tie.Need-listing-requires
-listing-requires c κs = search needs
+put-sheet-requires : tie.Need-put-sheet-requires
+put-sheet-requires c κs = search needs
 
 -- no sheet is longer than its space
-printed-within : (c : tie.After-listing) → c .listing .result ≤ length (c .listing .last .1 .0)
+printed-within : (c : tie.After-put-sheet) → c .put-sheet .result ≤ length (c .put-sheet .last .1 .0)
 printed-within c =
-    let l = c .listing in
+    let l = c .put-sheet in
     let all : length (l .last .1 .0) ≡ 163840 = ap length (l .ensures .1) ∙ filled-length _ _ ∙ length-replicate {A = ℕ} 163840 0 in
     subst⁻¹ (λ (k : ℕ). k ≤ length (l .last .1 .0)) (l .ensures .0) (le-trans (exam .short _) (omega (arith, all)))
 
@@ -46,7 +46,7 @@ array-share-prefix-out : tie.Need-array-share-prefix-out
 array-share-prefix-out c = printed-within c
 
 slice-aggregate-write-all-2 : tie.Need-slice-aggregate-write-all-2
-slice-aggregate-write-all-2 c = let l = c .before .listing in sym (length-take-le (l .result) (l .last .1 .0) (printed-within (c .before)))
+slice-aggregate-write-all-2 c = let l = c .before .put-sheet in sym (length-take-le (l .result) (l .last .1 .0) (printed-within (c .before)))
 
 write-all-requires-2 : tie.Need-write-all-requires-2
 write-all-requires-2 c κs = search needs
@@ -73,8 +73,8 @@ main-spec =
     write-all-requires
     returns
     array-share-prefix-space
-    slice-aggregate-listing
-    listing-requires
+    slice-aggregate-put-sheet
+    put-sheet-requires
     array-share-prefix-out
     slice-aggregate-write-all-2
     write-all-requires-2

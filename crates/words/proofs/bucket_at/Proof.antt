@@ -2,12 +2,12 @@
 -- Assumes nothing.
 use mathlib.Core.Path.{_∙_}
 use borrow.Author.Needs.{needs}
-use Rattle.layout.specs.Decoded.{decode}
+use Rattle.words_rules.specs.Decoded.{decode}
 use Rattle.words.proofs.bucket_at.Statement.{statement}
 use Rattle.words.proofs.bucket_at.Tie as tie
 
-five-at-requires : tie.Need-five-at-requires
-five-at-requires c κs = search needs
+packed-at-requires : tie.Need-packed-at-requires
+packed-at-requires c κs = search needs
 
 end-at-requires : tie.Need-end-at-requires
 end-at-requires c κs = search needs
@@ -17,9 +17,9 @@ decode-requires c κs = search needs
 
 returns : tie.Need-returns
 returns c =
-    let five = c .before .before .five-at .ensures in
+    let packed = c .before .before .packed-at .ensures in
     let end = c .before .end-at .ensures in
-    c .decode .ensures ∙ (λ i. decode (five i) (end i))
+    c .decode .ensures ∙ (λ i. decode (packed i) (end i))
 
 pub bucket-at-spec : {M : Type 1} → statement M
-bucket-at-spec = tie.close (tie.spec five-at-requires end-at-requires decode-requires returns)
+bucket-at-spec = tie.close (tie.spec packed-at-requires end-at-requires decode-requires returns)

@@ -5,7 +5,7 @@ use mathlib.Core.Logic.{⊎-elim}
 use native.Mathlib.Omega.{arith}
 use borrow.Author.Needs.{needs}
 use borrow.Author.Tests.{ltb-true, ltb-false, leb-true, leb-false}
-use Rattle.layout.proofs.StartLaws.{end-next, end-last}
+use Rattle.words_rules.proofs.StartLaws.{end-next, end-last}
 use Rattle.words.proofs.end_at.Statement.{statement}
 use Rattle.words.proofs.end_at.Tie as tie
 

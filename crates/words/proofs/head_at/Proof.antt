@@ -1,9 +1,9 @@
--- `words::head_at` meets its contract: the head of the four words that were read is the head of the list.
+-- `words::head_at` meets its contract: the head of the words that were read is the head of the list.
 -- Assumes nothing.
 use mathlib.Core.Path.{_∙_}
 use mathlib.Core.List.{[], _∷_}
 use borrow.Author.Needs.{needs}
-use Rattle.layout.specs.Words.{headOf}
+use Rattle.words_rules.specs.Words.{headOf}
 use Rattle.words.proofs.head_at.Statement.{statement}
 use Rattle.words.proofs.head_at.Tie as tie
 

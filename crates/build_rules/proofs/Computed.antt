@@ -1,0 +1,32 @@
+-- The worked examples hold of the definitions, by computation. Assumes nothing.
+use mathlib.Core.Path.{refl}
+use Rattle.laws.specs.Search.{first, largest, root}
+use Rattle.laws.specs.Each.{each}
+use Rattle.counts_rules.specs.Class.{classOf, classNumber}
+use Rattle.counts_rules.specs.Total.{highestBit, shift, bits, totalCode}
+use Rattle.words_rules.specs.Decoded.{encode}
+use Rattle.fit.specs.Fit.{rangesFit, bucketletFits}
+use Rattle.build_rules.specs.Width.{fitsAt, width}
+use Rattle.build_rules.specs.Bucket.{widthsFrom, bucketWidths, classesFrom, bucketFrom}
+use Rattle.build_rules.specs.Words.{bucketsFrom, bucketWordsOf, words}
+use Rattle.build_rules.specs.Worked.{Worked}
+
+pub worked : Worked
+unfolding first largest root each classOf classNumber highestBit shift bits totalCode encode rangesFit bucketletFits fitsAt width widthsFrom bucketWidths classesFrom bucketFrom bucketsFrom bucketWordsOf words
+worked =
+    record {
+      tens = refl;
+      class-11 = refl;
+      pair = refl;
+      theta-99 = refl;
+      theta-100 = refl;
+      not-average = refl;
+      unrounded = refl;
+      both-small = refl;
+      count-small = refl;
+      not-strict = refl;
+      fits-again = refl;
+      narrow-first = refl;
+      wide-first = refl;
+      free-place = refl;
+    }

@@ -1,0 +1,11 @@
+pub mod Computed
+pub mod WidthLaws
+pub mod BucketLaws
+pub mod WordsLaws
+pub mod BuildingLaws
+pub mod StretchLaws
+pub mod RangeLaws
+pub mod ReadBack
+pub mod RuleLaws
+pub mod AcceptedLaws
+pub mod Proved

@@ -1,0 +1,73 @@
+-- `builder::build` meets its contract: a refusal leaves the lent words as they were, and else the histogram stands before what is left of them.
+-- Assumes nothing.
+use mathlib.Core.Path.{_≡_, _∙_}
+use native.Mathlib.Omega.{arith}
+use borrow.Author.Needs.{needs}
+use Rattle.laws.specs.Refusal.{refusal}
+use Rattle.laws.proofs.ReplyLaws.{answered-case, refused-case}
+use Rattle.list_rules.specs.Quality.{inputSentences}
+use Rattle.list_rules.proofs.SoundLaws.{sound-of}
+use Rattle.build_rules.proofs.BuildingLaws.{refused-by, input-fault, short-fault, answered-by}
+use Rattle.builder.specs.declared.Built.the-variants.{Words, Refused}
+use Rattle.builder.proofs.build.Statement.{statement}
+use Rattle.builder.proofs.build.Tie as tie
+
+input-fault-requires : tie.Need-input-fault-requires
+input-fault-requires c κs = search needs
+
+returns : tie.Need-returns
+returns c =
+    let a = c .before .before .before .before .args in
+    let e = c .before .input-fault .ensures in
+    let r = refused-by (a .freqs .now) (a .theta) (a .qn) (a .qd) (a .out .now) _ (e ∙ input-fault (a .freqs .now) (a .theta) (a .qn) (a .qd) (a .out .now) (λ z. omega arith)) (λ z. omega arith) in
+    let p = refused-case Words Refused _ _ (λ z. omega arith) (r .0) in
+    (p .0, (p .1, r .1))
+
+-- the input is sound
+passed : (c : tie.Else1) → let a = c .before .before .before .before .args in refusal (inputSentences (a .freqs .now) (a .theta) (a .qn) (a .qd)) ≡ 0
+passed c = let e = c .before .input-fault .ensures in omega arith
+
+slice-aggregate-put-words : tie.Need-slice-aggregate-put-words
+slice-aggregate-put-words c = search needs
+
+put-words-requires : tie.Need-put-words-requires
+put-words-requires c κs = (sound-of _ _ _ _ (passed (c .before)), search needs)
+
+returns-2 : tie.Need-returns-2
+returns-2 c =
+    let a = c .before .before .before .before .before .before .before .before .args in
+    let h = c .before .before .put-words .ensures in
+    let r = refused-by (a .freqs .now) (a .theta) (a .qn) (a .qd) (a .out .now) 6 (short-fault (a .freqs .now) (a .theta) (a .qn) (a .qd) (a .out .now) (passed (c .before .before .before .before)) (omega (arith, h .count))) (λ z. omega arith) in
+    let p = refused-case Words Refused 6 _ (λ z. omega arith) (r .0) in
+    (p .0, (p .1, r .1))
+
+slice-aggregate-copy : tie.Need-slice-aggregate-copy
+slice-aggregate-copy c = search needs
+
+copy-requires : tie.Need-copy-requires
+copy-requires c κs = search needs
+
+same-length : tie.Need-same-length
+same-length c = search needs
+
+returns-3 : tie.Need-returns-3
+returns-3 c =
+    let a = c .before .before .before .before .before .before .before .before .before .before .before .before .before .args in
+    let h = c .before .before .before .before .before .before .before .put-words .ensures in
+    let r = answered-by (a .freqs .now) (a .theta) (a .qn) (a .qd) (a .out .now) (passed (c .before .before .before .before .before .before .before .before .before)) _ _ (h .count) (h .front) (omega arith) in
+    let p = answered-case Words Refused _ _ (r .0) in
+    (p .0, (p .1, c .before .before .copy .ensures ∙ r .1))
+
+pub build-spec : {M : Type 1} → statement M
+build-spec =
+    tie.close
+    (tie.spec
+    input-fault-requires
+    returns
+    slice-aggregate-put-words
+    put-words-requires
+    returns-2
+    slice-aggregate-copy
+    copy-requires
+    same-length
+    returns-3)

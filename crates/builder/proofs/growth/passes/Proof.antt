@@ -1,0 +1,83 @@
+-- `builder::growth::passes` meets its contract: every product fits, and the two tests are the definition's.
+-- Assumes nothing.
+use mathlib.Core.Path.{sym}
+use Prim.Native.Nat.{ℕ, _*_, _^_, _≤_}
+use native.Mathlib.Nat.{le-of-lt, mul-le-mul}
+use native.Mathlib.Omega.{arith}
+use borrow.Author.Tests.{lt-leb, le-leb}
+use lib.Dec.{leb}
+use Rattle.laws.proofs.Tests.{fails-left}
+use Rattle.counts_rules.specs.Base.{limit}
+use Rattle.list_rules.specs.Limits.{maxQ}
+use Rattle.words_rules.specs.Limits.{maxWidth}
+use Rattle.list_rules.specs.declared.Quality.{Quality}
+use Rattle.builder.specs.declared.growth.Bounds.{Bounds}
+use Rattle.builder.specs.Private.Growing.{Testable}
+use Rattle.builder.proofs.growth.passes.Statement.{statement}
+use Rattle.builder.proofs.growth.passes.Tie as tie
+
+-- every product that the code makes
+record Products (q : Quality) (b : Bounds) (s w : ℕ) : Type 0 where
+  number : q .qn * s ≤ maxQ * 2 ^ 31
+  lower-right : q .qn * s * b .low .bottom ≤ maxQ * 2 ^ 31 * maxWidth
+  count : q .qd * b .low .top ≤ maxQ * limit
+  lower-left : q .qd * b .low .top * w ≤ maxQ * limit * maxWidth
+  length : q .qd * b .up .top ≤ maxQ * maxWidth
+  upper-left : q .qd * b .up .top * s ≤ maxQ * maxWidth * 2 ^ 31
+  upper-right : b .up .bottom * w ≤ maxQ * limit * maxWidth
+
+products : (q : Quality) (b : Bounds) (s w : ℕ) → Testable q b s w → Products q b s w
+products q b s w t =
+    let number = mul-le-mul (t .qn-small) (le-of-lt (t .number)) in
+    let count = mul-le-mul (t .qd-small) (t .low-top) in
+    let length = mul-le-mul (t .qd-small) (t .up-top) in
+    record {
+      number = number;
+      lower-right = mul-le-mul number (t .low-bottom);
+      count = count;
+      lower-left = mul-le-mul count (t .narrow);
+      length = length;
+      upper-left = mul-le-mul length (le-of-lt (t .number));
+      upper-right = mul-le-mul (t .up-bottom) (t .narrow);
+    }
+
+made : (c : tie.Start) → Products (c .args .q) (c .args .b) (c .args .s) (c .args .w)
+made c = products (c .args .q) (c .args .b) (c .args .s) (c .args .w) (c .pre)
+
+mul-if1 : tie.Need-mul-if1
+mul-if1 c = omega (arith, made (c .before) .number)
+
+mul-if1-2 : tie.Need-mul-if1-2
+mul-if1-2 c = omega (arith, made (c .before .before) .lower-right)
+
+mul-if1-3 : tie.Need-mul-if1-3
+mul-if1-3 c = omega (arith, made (c .before .before .before .before) .count)
+
+mul-if1-4 : tie.Need-mul-if1-4
+mul-if1-4 c = omega (arith, made (c .before .before .before .before) .lower-left)
+
+returns : tie.Need-returns
+returns c =
+    let a = c .before .before .before .before .before .args in
+    let b = a .b in
+    sym (fails-left _ (leb (a .q .qd * b .up .top * a .s) (b .up .bottom * a .w))
+    (lt-leb (a .q .qd * b .low .top * a .w) (a .q .qn * a .s * b .low .bottom) (omega arith)))
+
+mul-result : tie.Need-mul-result
+mul-result c = omega (arith, made (c .before .before .before .before .before .before .before) .length)
+
+mul-result-2 : tie.Need-mul-result-2
+mul-result-2 c = omega (arith, made (c .before .before .before .before .before .before .before) .upper-left)
+
+mul-result-3 : tie.Need-mul-result-3
+mul-result-3 c = omega (arith, made (c .before .before .before .before .before .before .before .before) .upper-right)
+
+returns-2 : tie.Need-returns-2
+returns-2 c =
+    let a = c .before .before .before .before .before .before .before .before .args in
+    let b = a .b in
+    simp (le-leb (a .q .qd * b .low .top * a .w) (a .q .qn * a .s * b .low .bottom) (omega arith))
+
+pub passes-spec : {M : Type 1} → statement M
+passes-spec =
+    tie.close (tie.spec mul-if1 mul-if1-2 mul-if1-3 mul-if1-4 returns mul-result mul-result-2 mul-result-3 returns-2)

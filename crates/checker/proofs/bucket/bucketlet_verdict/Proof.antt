@@ -1,0 +1,73 @@
+-- `checker::bucket::bucketlet_verdict` meets its contract. An empty bucketlet has no range, and the class of any other is in use, so that its number
+-- is read. Assumes nothing.
+use mathlib.Core.Path.{_≡_, sym, ap, _∙_}
+use native.Mathlib.Omega.{arith}
+use borrow.Author.Needs.{needs}
+use Rattle.counts_rules.specs.Base.{base}
+use Rattle.counts_rules.specs.Class.{classNumber}
+use Rattle.counts_rules.proofs.BaseLaws.{close}
+use Rattle.counts.specs.declared.Meaning.{Meaning}
+use Rattle.counts.specs.Reply.{meaningReply}
+use Rattle.counts.proofs.CallLaws.{class-read}
+use Rattle.check_rules.specs.Failing.{bucketletVerdict}
+use Rattle.check_rules.proofs.RangeLaws.{empty-verdict}
+use Rattle.checker.proofs.bucket.bucketlet_verdict.Statement.{statement}
+use Rattle.checker.proofs.bucket.bucketlet_verdict.Tie as tie
+
+returns : tie.Need-returns
+returns c =
+    let a = c .before .before .args in
+    sym (empty-verdict (a .q) (a .freqs .now) (a .a) (a .w) (classNumber base (a .class)) (omega arith))
+
+number-of-class-requires : tie.Need-number-of-class-requires
+number-of-class-requires c κs = search needs
+
+enum-known-number : tie.Need-enum-known-number
+enum-known-number c = search needs
+
+enum-told : tie.Need-enum-told
+enum-told c = search needs
+
+-- the reply of the call
+reply : (c : tie.After-number-of-class)
+    → let r = meaningReply (c .number-of-class .result) in
+    (r .refusal ≡ 0) × (r .value ≡ classNumber base (c .before .before .before .args .class))
+reply c = let s = c .before .before .before in class-read (s .args .class) _ (s .pre .used (omega arith)) (c .number-of-class .ensures .0)
+
+returns-2 : tie.Need-returns-2
+returns-2 c = absurd (omega (arith, ap (λ (m : Meaning). meaningReply m .refusal) (sym (c .enum-told .given .1)) ∙ reply (c .before .before) .0))
+
+-- the number in hand
+number : (c : tie.After-known-told) → c .before .number .given .0 .0 ≡ classNumber base (c .before .before .before .before .before .before .args .class)
+number c = ap (λ (m : Meaning). meaningReply m .value) (sym (c .before .number .given .1)) ∙ reply (c .before .before .before) .1
+
+cast-first-failing : tie.Need-cast-first-failing
+cast-first-failing c = search needs
+
+first-failing-requires : tie.Need-first-failing-requires
+first-failing-requires c κs =
+    let s = c .before .before .before .before .before .before in
+    record {
+      sound = s .pre .sound;
+      inside = s .pre .inside;
+      narrow = s .pre .narrow;
+      number-small = omega (arith, number c, close (s .args .class) (s .pre .used (omega arith)) .small);
+    }
+
+returns-3 : tie.Need-returns-3
+returns-3 c =
+    let a = c .before .before .before .before .before .before .before .args in
+    c .first-failing .ensures ∙ ap (bucketletVerdict (a .q) (a .freqs .now) (a .a) (a .w)) (number (c .before))
+
+pub bucketlet-verdict-spec : {M : Type 1} → statement M
+bucketlet-verdict-spec =
+    tie.close
+    (tie.spec
+    returns
+    number-of-class-requires
+    enum-known-number
+    enum-told
+    returns-2
+    cast-first-failing
+    first-failing-requires
+    returns-3)

@@ -1,0 +1,55 @@
+-- The words of the private contracts of the checker: what keeps its products within 64 bits, and what a histogram without a fault gives.
+-- Assumes nothing.
+use mathlib.Core.Path.{_≡_}
+use mathlib.Core.Bool.{true}
+use mathlib.Core.List.{List}
+use Prim.Native.Nat.{ℕ, _+_, _*_, _^_, _≤_, _<_}
+use lib.ListN.{length}
+use Rattle.counts_rules.specs.Base.{limit, usedClass}
+use Rattle.counts_rules.specs.Total.{validCode}
+use Rattle.list_rules.specs.Limits.{maxTheta, maxQ}
+use Rattle.words_rules.specs.Limits.{maxWidth}
+use Rattle.words_rules.specs.Words.{buckets}
+use Rattle.list_rules.specs.declared.Quality.{Quality}
+use Rattle.fit.specs.Accepted.{checkFault}
+use Rattle.list_rules.specs.Private.Sound.{Sound}
+
+-- a count and an estimate x / w whose products are small
+pub record Comparable (q : Quality) (f x w : ℕ) : Type 0 where
+  pub theta-small : q .theta ≤ maxTheta
+  pub qn-small : q .qn ≤ maxQ
+  pub qd-small : q .qd ≤ maxQ
+  pub count-small : f ≤ limit
+  pub estimate-small : x ≤ maxWidth * 2 ^ 31
+  pub narrow : w ≤ maxWidth
+
+-- a bucketlet inside the list
+pub record Searchable (fs : List ℕ) (q : Quality) (a w s : ℕ) : Type 0 where
+  pub sound : Sound fs q
+  pub inside : a + w ≤ length fs
+  pub narrow : w ≤ maxWidth
+  pub number-small : s < 2 ^ 31
+
+-- with its class in the number's place
+pub record Classed (fs : List ℕ) (q : Quality) (a w class : ℕ) : Type 0 where
+  pub sound : Sound fs q
+  pub inside : a + w ≤ length fs
+  pub narrow : w ≤ maxWidth
+  pub used : 0 < w → usedClass class ≡ true
+
+-- a bucket's span inside the list, and its total
+pub record Totalled (fs : List ℕ) (q : Quality) (start end code : ℕ) : Type 0 where
+  pub sound : Sound fs q
+  pub ordered : start ≤ end
+  pub inside : end ≤ length fs
+  pub valid : validCode code ≡ true
+
+-- a histogram that has no fault for the list
+pub record Checkable (fs ws : List ℕ) (q : Quality) : Type 0 where
+  pub no-fault : checkFault fs ws ≡ 0
+  pub sound : Sound fs q
+
+-- a bucket of it
+pub record Bucketed (fs ws : List ℕ) (q : Quality) (b : ℕ) : Type 0 where
+  pub checkable : Checkable fs ws q
+  pub is-bucket : b < buckets ws

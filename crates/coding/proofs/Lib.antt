@@ -1,5 +1,0 @@
-pub mod Computed
-pub mod ClassLaws
-pub mod TotalLaws
-pub mod BaseLaws
-pub mod Shown

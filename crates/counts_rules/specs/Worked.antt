@@ -1,0 +1,37 @@
+-- The starred examples of the codings (document 01, "Examples"), and what its text says of the first classes and of valid codes.
+-- Assumes nothing.
+use mathlib.Core.Path.{_≡_}
+use mathlib.Core.Bool.{true, false}
+use mathlib.Core.List.{[], _∷_, map}
+use Prim.Native.Nat.{ℕ}
+use Rattle.counts_rules.specs.Base.{base, usedClass}
+use Rattle.counts_rules.specs.Class.{classOf, classStart, classNumber}
+use Rattle.counts_rules.specs.Total.{totalCode, totalNumber, validCode}
+
+-- a count, its class and the class's number
+pub record Classed (v c n : ℕ) : Type 0 where
+  pub class : classOf base v ≡ c
+  pub number : classNumber base c ≡ n
+
+-- a total, its code and the code's number
+pub record Totalled (t c n : ℕ) : Type 0 where
+  pub code : totalCode t ≡ c
+  pub number : totalNumber c ≡ n
+
+pub record Worked : Type 0 where
+  pub count-1 : Classed 1 1 1
+  pub count-2 : Classed 2 3 2
+  pub count-5 : Classed 5 5 4
+  pub count-10 : Classed 10 7 8
+  pub count-11 : Classed 11 8 12
+  pub count-100 : Classed 100 14 93
+  pub total-127 : Totalled 127 4064 127
+  pub total-128 : Totalled 128 2049 128
+  pub total-1000 : Totalled 1000 4003 1003
+  -- where classes 1 to 10 begin
+  pub starts : map (classStart base) (1 ∷ 2 ∷ 3 ∷ 4 ∷ 5 ∷ 6 ∷ 7 ∷ 8 ∷ 9 ∷ 10 ∷ []) ≡ 1 ∷ 2 ∷ 2 ∷ 3 ∷ 4 ∷ 6 ∷ 8 ∷ 11 ∷ 15 ∷ 21 ∷ []
+  -- the classes next to those that no count has
+  pub class-0 : classNumber base 0 ≡ 0
+  pub used : map usedClass (0 ∷ 1 ∷ 2 ∷ 3 ∷ 62 ∷ 63 ∷ []) ≡ false ∷ true ∷ false ∷ true ∷ true ∷ false ∷ []
+  -- codes on both sides of each bound: bits 0 and 1, 127 and 128; with a shift bits 63 and 64, and shifts 23 and 24
+  pub valid : map validCode (0 ∷ 32 ∷ 4064 ∷ 4096 ∷ 2017 ∷ 2049 ∷ 2071 ∷ 2072 ∷ []) ≡ false ∷ true ∷ true ∷ false ∷ false ∷ true ∷ true ∷ false ∷ []

@@ -1,0 +1,36 @@
+-- The worked examples hold of the definitions, by computation. Assumes nothing.
+use mathlib.Core.Path.{refl}
+use Rattle.laws.specs.Each.{each, some}
+use Rattle.laws.specs.Refusal.{refusal}
+use Rattle.laws.specs.Search.{first, largest, root}
+use Rattle.counts_rules.specs.Class.{classNumber}
+use Rattle.counts_rules.specs.Total.{middle, totalNumber, validFields}
+use Rattle.words_rules.specs.Decoded.{decode}
+use Rattle.words_rules.specs.Reading.{headGood, headFault, lengthFault, wordsBroken, wordFault, startFault, widthsBroken, widthFault, classBroken, codesBroken, codeFault}
+use Rattle.estimate_rules.specs.Fraction.{sumOf, rounded}
+use Rattle.estimate_rules.specs.Exact.{piece, bucketPiece, exact}
+use Rattle.estimate_rules.specs.Asking.{rangeFault, estimate, estimateReply}
+use Rattle.estimate_rules.specs.Worked.{Worked}
+
+pub worked : Worked
+unfolding each some refusal first largest root classNumber middle totalNumber validFields decode headGood headFault lengthFault wordsBroken wordFault startFault widthsBroken widthFault classBroken codesBroken codeFault sumOf rounded piece bucketPiece exact rangeFault estimate estimateReply
+worked =
+    record {
+      one-to-three = refl;
+      zero-to-three = refl;
+      zero-to-four = refl;
+      two-to-two = refl;
+      at-end = refl;
+      past-end = refl;
+      turned = refl;
+      words-first = refl;
+      rounded-once = refl;
+      cut-and-whole = refl;
+      among-empty = refl;
+      around-empty = refl;
+      bucket-inside = refl;
+      both-inside = refl;
+      neither-inside = refl;
+      narrower = refl;
+      wider = refl;
+    }

@@ -1,0 +1,42 @@
+-- The sum that estimates a range, not yet rounded (document 01, "Asking", its first paragraph). A range from x to y holds the entries from
+-- x on and before y, and so does the span of a bucket or a bucketlet, from a to e.
+-- Assumes nothing.
+use mathlib.Core.Bool.{Bool, cond, _&&_}
+use mathlib.Core.List.{List}
+use Prim.Native.Nat.{ℕ, _+_, _-_, _*_, min, max}
+use lib.Dec.{leb, eqb}
+use lib.ListN.{getD}
+use Rattle.counts_rules.specs.Base.{base}
+use Rattle.counts_rules.specs.Class.{classNumber}
+use Rattle.counts_rules.specs.Total.{totalNumber}
+use Rattle.words_rules.specs.declared.Bucket.{Bucket}
+use Rattle.words_rules.specs.Words.{buckets, start, end}
+use Rattle.words_rules.specs.Decoded.{bucketAt, classAt, bucketletStart}
+use Rattle.estimate_rules.specs.declared.Fraction.{Fraction}
+use Rattle.estimate_rules.specs.Fraction.{number, nothing, quotient, sumOf}
+
+-- the span lies wholly inside the range
+abbrev pub inside : ℕ → ℕ → ℕ → ℕ → Bool
+inside x y a e = leb x a && leb e y
+
+-- how many entries of the span the range holds
+abbrev pub overlap : ℕ → ℕ → ℕ → ℕ → ℕ
+overlap x y a e = min y e - max x a
+
+-- what a bucketlet at a, of width w, that stands for s gives: nothing if the range holds no entry of it, s if it holds all, else n * s / w
+unfoldable pub piece : ℕ → ℕ → ℕ → ℕ → ℕ → Fraction
+piece x y a w s =
+    let n = overlap x y a (a + w) in
+    cond (eqb n 0) nothing (cond (inside x y a (a + w)) (number s) (quotient (n * s) w))
+
+-- bucketlet k of a bucket
+abbrev pub bucketletPiece : ℕ → ℕ → Bucket → ℕ → Fraction
+bucketletPiece x y r k = piece x y (bucketletStart r k) (getD (r .widths) k 0) (classNumber base (classAt r k))
+
+-- bucket b: its total if it lies wholly inside, otherwise its bucketlets
+unfoldable pub bucketPiece : List ℕ → ℕ → ℕ → ℕ → Fraction
+bucketPiece ws x y b =
+    cond (inside x y (start ws b) (end ws b)) (number (totalNumber (bucketAt ws b .total))) (sumOf 8 (bucketletPiece x y (bucketAt ws b)))
+
+unfoldable pub exact : List ℕ → ℕ → ℕ → Fraction
+exact ws x y = sumOf (buckets ws) (bucketPiece ws x y)

@@ -1,0 +1,162 @@
+-- The walk over a bucket's bucketlets and over the buckets: what is summed so far is a sum of the definition, and it is small.
+-- Assumes nothing.
+use mathlib.Core.Path.{_≡_, refl, sym, ap, subst, _∙_}
+use mathlib.Core.Bool.{true, false}
+use mathlib.Core.Logic.{inl, inr, ⊎-elim}
+use mathlib.Core.List.{List}
+use Prim.Native.Nat.{ℕ, suc, _+_, _^_, _≤_, _<_}
+use native.Mathlib.Nat.{eq-zero-or-pos, le-trans}
+use native.Mathlib.Omega.{arith}
+use borrow.Author.Tests.{leb-true}
+use lib.Dec.{leb}
+use lib.ListN.{getD}
+use Rattle.laws.proofs.Tests.{both-left, both-right, is-false}
+use Rattle.counts_rules.specs.Base.{base}
+use Rattle.counts_rules.specs.Class.{classNumber}
+use Rattle.counts_rules.specs.Total.{totalNumber, validCode}
+use Rattle.words_rules.specs.declared.Bucket.{Bucket}
+use Rattle.words_rules.specs.Words.{buckets, start, end}
+use Rattle.words_rules.specs.Decoded.{bucketAt, classAt, bucketletStart}
+use Rattle.words_rules.specs.Reading.{Readable}
+use Rattle.words_rules.proofs.Proved.{histogram}
+use Rattle.words_rules.proofs.EntryLaws.{bucketlet-end}
+use Rattle.estimate_rules.specs.declared.Fraction.{Fraction}
+use Rattle.estimate_rules.specs.Fraction.{number, nothing, plus, sumOf}
+use Rattle.estimate_rules.specs.Exact.{inside, overlap, piece, bucketletPiece, bucketPiece, exact}
+use Rattle.estimate_rules.proofs.FractionLaws.{sum-none}
+use Rattle.estimate_rules.proofs.ExactLaws.{piece-none, bucket-whole, bucket-parts}
+use Rattle.estimate_rules.proofs.CutLaws.{rises}
+use Rattle.estimate_rules.proofs.SpanLaws.{bucketlets-rise, first-bucketlet, last-bucketlet, edge, edges-rise, edge-last, bucketlets-hold, buckets-hold}
+use Rattle.estimate_rules.proofs.SizeLaws.{Sized, sized-joined, bucketlet-sized, total-sized, class-small}
+use Rattle.estimator.specs.Private.Adding.{Small, ClassIn}
+use Rattle.estimator.proofs.AskLaws.{small-of}
+
+-- the first k bucketlets of a bucket are summed
+pub record Walked (r : Bucket) (x y : ℕ) (sum : Fraction) (a k : ℕ) : Type 0 where
+  pub places : k ≤ 8
+  pub at : a ≡ bucketletStart r k
+  pub summed : sum ≡ sumOf k (bucketletPiece x y r)
+
+module _ (r : Bucket) (x y : ℕ) where
+  pub walk-start : (a : ℕ) → a ≡ bucketletStart r 0 → Walked r x y nothing a 0
+  unfolding sumOf
+  walk-start a e = record { places = omega arith; at = e; summed = refl }
+
+  module _ (sum : Fraction) (a k : ℕ) (walked : Walked r x y sum a k) (l : k < 8) where
+    next-at : a + getD (r .widths) k 0 ≡ bucketletStart r (suc k)
+    next-at = omega (arith, walked .at, bucketlet-end r k)
+
+    next-sum : plus sum (piece x y a (getD (r .widths) k 0) (classNumber base (classAt r k))) ≡ sumOf (suc k) (bucketletPiece x y r)
+    unfolding sumOf
+    next-sum =
+        let e = walked .summed in
+        let at = walked .at in
+        λ i. plus (e i) (piece x y (at i) (getD (r .widths) k 0) (classNumber base (classAt r k)))
+
+    pub walk-step : (t : Fraction) → t ≡ plus sum (piece x y a (getD (r .widths) k 0) (classNumber base (classAt r k)))
+        → Walked r x y t (a + getD (r .widths) k 0) (suc k)
+    walk-step t e = record { places = omega arith; at = next-at; summed = e ∙ next-sum }
+
+module _ (ws : List ℕ) (readable : Readable ws) (x y : ℕ) where
+  module _ (b : ℕ) (h : b < buckets ws) where
+    -- a bucket ends within the list
+    end-within : end ws b ≤ 65536
+    end-within = le-trans (histogram .tiles ws readable .within b h) (histogram .limits ws readable .most-entries)
+
+    -- and its bucketlets within it
+    bucketlet-within : (k : ℕ) → k ≤ 8 → bucketletStart (bucketAt ws b) k ≤ end ws b
+    bucketlet-within k l = omega (arith, rises (bucketletStart (bucketAt ws b)) k 8 (λ j g. bucketlets-rise (bucketAt ws b) j) l, last-bucketlet ws readable b h)
+
+    sums-small : (k : ℕ) → k ≤ 8 → Small (sumOf k (bucketletPiece x y (bucketAt ws b)))
+    sums-small k l =
+        small-of x y (start ws b) (bucketletStart (bucketAt ws b) k) _
+        (bucketlets-hold ws readable x y (Sized x y) (sized-joined x y) (λ b j h l. bucketlet-sized ws readable x y b h j l) (λ b h t. total-sized ws readable x y b h) b k h l)
+        (omega (arith, bucketlet-within k l, end-within))
+
+    -- of the bucket in hand
+    module _ (r : Bucket) (e : r ≡ bucketAt ws b) where
+      of-bucket : (P : Bucket → Type 0) → P (bucketAt ws b) → P r
+      of-bucket P p = subst P (sym e) p
+
+      pub starts : (a : ℕ) → a ≡ start ws b → a ≡ bucketletStart r 0
+      starts a s = s ∙ of-bucket (λ (r : Bucket). start ws b ≡ bucketletStart r 0) (sym (first-bucketlet ws b))
+
+      pub class-in : (k : ℕ) → k < 8 → ClassIn (classAt r k)
+      class-in k l =
+          let holds = histogram .holds ws readable b h in
+          of-bucket (λ (r : Bucket). ClassIn (classAt r k))
+          (⊎-elim
+          (λ (z : getD (bucketAt ws b .widths) k 0 ≡ 0). inl (holds .empty-class k l z))
+          (λ (p : 0 < getD (bucketAt ws b .widths) k 0). inr (holds .class-used k l p))
+          (eq-zero-or-pos (getD (bucketAt ws b .widths) k 0)))
+
+      pub class-limit : (k : ℕ) → k < 8 → classNumber base (classAt r k) ≤ 2 ^ 31
+      class-limit k l = of-bucket (λ (r : Bucket). classNumber base (classAt r k) ≤ 2 ^ 31) (class-small ws readable x y b h k l)
+
+      pub total-valid : validCode (r .total) ≡ true
+      total-valid = of-bucket (λ (r : Bucket). validCode (r .total) ≡ true) (histogram .holds ws readable b h .total-valid)
+
+      pub walk-within : (sum : Fraction) (a k : ℕ) → Walked r x y sum a k → k < 8 → a + getD (r .widths) k 0 ≤ 65536
+      walk-within sum a k w l =
+          omega (arith, next-at r x y sum a k w l, end-within, of-bucket (λ (r : Bucket). bucketletStart r (suc k) ≤ end ws b) (bucketlet-within (suc k) (omega arith)))
+
+      pub walk-small : (sum : Fraction) (a k : ℕ) → Walked r x y sum a k → k < 8
+          → (t : Fraction) → t ≡ piece x y a (getD (r .widths) k 0) (classNumber base (classAt r k)) → Small (plus sum t)
+      walk-small sum a k w l t p =
+          subst (λ (t : Fraction). Small (plus sum t)) (sym p)
+          (subst Small (sym (next-sum r x y sum a k w l)) (of-bucket (λ (r : Bucket). Small (sumOf (suc k) (bucketletPiece x y r))) (sums-small (suc k) (omega arith))))
+
+      pub walk-end : (sum : Fraction) (a k : ℕ) → Walked r x y sum a k → k ≡ 8 → inside x y (start ws b) (end ws b) ≡ false → sum ≡ bucketPiece ws x y b
+      walk-end sum a k w n f =
+          w .summed
+          ∙ ap (λ (n : ℕ). sumOf n (bucketletPiece x y r)) n
+          ∙ ap (λ (r : Bucket). sumOf 8 (bucketletPiece x y r)) e
+          ∙ sym (bucket-parts ws x y b f)
+
+      pub total-end : (n : ℕ) → n ≡ totalNumber (r .total) → inside x y (start ws b) (end ws b) ≡ true → number n ≡ bucketPiece ws x y b
+      total-end n t i = ap number (t ∙ ap (λ (r : Bucket). totalNumber (r .total)) e) ∙ sym (bucket-whole ws x y b i)
+
+    -- a bucket of which the range holds no entry gives nothing
+    pub bucket-none : overlap x y (start ws b) (end ws b) ≡ 0 → nothing ≡ bucketPiece ws x y b
+    bucket-none z =
+        let r = bucketAt ws b in
+        sym
+        (bucket-parts ws x y b
+        (is-false _ (λ t. omega (arith, leb-true x (start ws b) (both-left (leb x (start ws b)) _ t), leb-true (end ws b) y (both-right (leb x (start ws b)) _ t), histogram .tiles ws readable .not-empty b h)))
+        ∙ sum-none 8 (bucketletPiece x y r) (λ k l.
+        piece-none x y (bucketletStart r k) (getD (r .widths) k 0) (classNumber base (classAt r k))
+        (omega (arith, z, bucketlet-end r k, bucketlet-within (suc k) (omega arith), first-bucketlet ws b, rises (bucketletStart r) 0 k (λ j g. bucketlets-rise r j) (omega arith)))))
+
+  pub buckets-small : (n : ℕ) → n ≤ buckets ws → Small (sumOf n (bucketPiece ws x y))
+  buckets-small n l =
+      small-of x y 0 (edge ws n) _
+      (buckets-hold ws readable x y (Sized x y) (sized-joined x y) (λ b j h l. bucketlet-sized ws readable x y b h j l) (λ b h t. total-sized ws readable x y b h) n l)
+      (le-trans (rises (edge ws) n (buckets ws) (edges-rise ws readable) l) (omega (arith, edge-last ws, histogram .limits ws readable .most-entries)))
+
+-- the first n buckets are summed
+pub record Passed (ws : List ℕ) (x y : ℕ) (sum : Fraction) (n : ℕ) : Type 0 where
+  pub within : n ≤ buckets ws
+  pub summed : sum ≡ sumOf n (bucketPiece ws x y)
+
+module _ (ws : List ℕ) (readable : Readable ws) (x y : ℕ) where
+  pub pass-start : Passed ws x y nothing 0
+  unfolding sumOf
+  pass-start = record { within = omega arith; summed = refl }
+
+  module _ (sum : Fraction) (n : ℕ) (passed : Passed ws x y sum n) where
+    next-passed : (t : Fraction) → t ≡ bucketPiece ws x y n → plus sum t ≡ sumOf (suc n) (bucketPiece ws x y)
+    unfolding sumOf
+    next-passed t e = let s = passed .summed in λ i. plus (s i) (e i)
+
+    pub pass-small : n < buckets ws → (t : Fraction) → t ≡ bucketPiece ws x y n → Small (plus sum t)
+    pass-small l t e = subst Small (sym (next-passed t e)) (buckets-small ws readable x y (suc n) l)
+
+    pub pass-step : n < buckets ws → (t u : Fraction) → t ≡ bucketPiece ws x y n → u ≡ plus sum t → Passed ws x y u (suc n)
+    pass-step l t u e f = record { within = l; summed = f ∙ next-passed t e }
+
+    pub pass-end : n ≡ buckets ws → sum ≡ exact ws x y
+    unfolding exact
+    pass-end e = passed .summed ∙ ap (λ (n : ℕ). sumOf n (bucketPiece ws x y)) e
+
+    pub passed-small : Small sum
+    passed-small = subst Small (sym (passed .summed)) (buckets-small ws readable x y n (passed .within))

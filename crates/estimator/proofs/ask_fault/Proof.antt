@@ -1,0 +1,47 @@
+-- `estimator::ask_fault` meets its contract: the list is tested first, and then the range.
+-- Assumes nothing.
+use mathlib.Core.Path.{sym, _∙_}
+use mathlib.Core.Logic.{inl, inr}
+use native.Mathlib.Omega.{arith}
+use borrow.Author.Needs.{needs}
+use Rattle.words_rules.specs.Reading.{Readable}
+use Rattle.estimate_rules.proofs.AskingLaws.{list-first, range-refused, no-fault}
+use Rattle.estimator.proofs.ask_fault.Statement.{statement}
+use Rattle.estimator.proofs.ask_fault.Tie as tie
+
+read-fault-requires : tie.Need-read-fault-requires
+read-fault-requires c κs = search needs
+
+returns : tie.Need-returns
+returns c =
+    let a = c .before .before .before .args in
+    let r = c .before .read-fault .ensures in
+    r ∙ sym (list-first (a .words .now) (a .x) (a .y) (λ e. omega arith))
+
+returns-2 : tie.Need-returns-2
+returns-2 c =
+    let a = c .before .before .before .before .args in
+    let readable : Readable (a .words .now) = omega (arith, c .before .before .read-fault .ensures) in
+    sym (range-refused (a .words .now) (a .x) (a .y) readable (inl (omega arith)))
+
+entry-count-requires : tie.Need-entry-count-requires
+entry-count-requires c κs = search needs
+
+returns-3 : tie.Need-returns-3
+returns-3 c =
+    let a = c .before .before .before .before .before .before .args in
+    let readable : Readable (a .words .now) = omega (arith, c .before .before .before .before .read-fault .ensures) in
+    let d = c .before .entry-count .ensures in
+    sym (range-refused (a .words .now) (a .x) (a .y) readable (inr (omega arith)))
+
+returns-4 : tie.Need-returns-4
+returns-4 c =
+    let a = c .before .before .before .before .before .before .args in
+    let readable : Readable (a .words .now) = omega (arith, c .before .before .before .before .read-fault .ensures) in
+    let d = c .before .entry-count .ensures in
+    sym (no-fault (a .words .now) (a .x) (a .y) readable (omega arith) (omega arith))
+
+pub ask-fault-spec : {M : Type 1} → statement M
+ask-fault-spec =
+    tie.close
+    (tie.spec read-fault-requires returns returns-2 entry-count-requires returns-3 returns-4)

@@ -1,0 +1,59 @@
+-- `estimator::estimate` meets its contract: the refusal, 0 for the empty range, or the sum rounded up once.
+-- Assumes nothing.
+use mathlib.Core.Path.{_≡_, sym, ap, _∙_}
+use Prim.Native.Nat.{ℕ}
+use native.Mathlib.Omega.{arith}
+use borrow.Author.Needs.{needs}
+use Rattle.laws.specs.Reply.{answered, refused}
+use Rattle.laws.proofs.ReplyLaws.{answered-case, refused-case}
+use Rattle.estimate_rules.specs.Fraction.{rounded}
+use Rattle.estimate_rules.specs.Asking.{askFault, estimate}
+use Rattle.estimate_rules.proofs.AskingLaws.{asked-readable, reply-refused, reply-answered}
+use Rattle.estimate_rules.proofs.Proved.{none}
+use Rattle.estimator.specs.declared.Asked.the-variants.{Estimate, Refused}
+use Rattle.estimator.proofs.estimate.Statement.{statement}
+use Rattle.estimator.proofs.estimate.Tie as tie
+
+ask-fault-requires : tie.Need-ask-fault-requires
+ask-fault-requires c κs = search needs
+
+returns : tie.Need-returns
+returns c =
+    let a = c .before .before .before .args in
+    let f = c .before .ask-fault .ensures in
+    refused-case Estimate Refused _ _ (λ z. omega arith) (ap refused f ∙ sym (reply-refused (a .words .now) (a .x) (a .y) (λ e. omega arith)))
+
+-- nothing is refused
+asked : (c : tie.Else1) → let a = c .before .before .before .args in askFault (a .words .now) (a .x) (a .y) ≡ 0
+asked c = omega (arith, c .before .ask-fault .ensures)
+
+returns-2 : tie.Need-returns-2
+returns-2 c =
+    let a = c .before .before .before .before .args in
+    let f = asked (c .before) in
+    let same : a .x ≡ a .y = omega arith in
+    answered-case Estimate Refused 0 _
+    (sym (reply-answered (a .words .now) (a .x) (a .y) f
+    ∙ ap (λ (y : ℕ). answered (estimate (a .words .now) (a .x) y)) (sym same)
+    ∙ ap answered (none (a .words .now) (asked-readable (a .words .now) (a .x) (a .y) f) (a .x))))
+
+exact-of-requires : tie.Need-exact-of-requires
+exact-of-requires c κs =
+    let a = c .before .before .before .before .args in
+    asked-readable (a .words .now) (a .x) (a .y) (asked (c .before))
+
+rounded-of-requires : tie.Need-rounded-of-requires
+rounded-of-requires c κs = search needs
+
+returns-3 : tie.Need-returns-3
+unfolding estimate
+returns-3 c =
+    let a = c .before .before .before .before .before .before .args in
+    answered-case Estimate Refused _ _
+    (ap answered (c .rounded-of .ensures ∙ ap rounded (c .before .exact-of .ensures .0))
+    ∙ sym (reply-answered (a .words .now) (a .x) (a .y) (asked (c .before .before .before))))
+
+pub estimate-spec : {M : Type 1} → statement M
+estimate-spec =
+    tie.close
+    (tie.spec ask-fault-requires returns returns-2 exact-of-requires rounded-of-requires returns-3)

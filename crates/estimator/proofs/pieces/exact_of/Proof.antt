@@ -1,0 +1,72 @@
+-- `estimator::pieces::exact_of` meets its contract: the loop's invariant is that the first b buckets are summed, and its measure what is left of
+-- them.
+-- Assumes nothing.
+use Prim.Native.Nat.{_-_}
+use native.Mathlib.Numerals.{add-one}
+use native.Mathlib.Omega.{arith}
+use borrow.Author.Needs.{needs}
+use Rattle.estimator.proofs.WalkLaws.{Passed, pass-start, pass-small, pass-step, pass-end, passed-small}
+use Rattle.estimator.proofs.pieces.exact_of.Statement.{statement}
+use Rattle.estimator.proofs.pieces.exact_of.Tie as tie
+
+abbrev Inv-loop : tie.InvT-loop
+Inv-loop words x y buckets sum₀ b₀ sum b = Passed words x y sum b
+
+abbrev μ-loop : tie.MeasureT-loop
+μ-loop words x y buckets sum₀ b₀ sum b = buckets - b
+
+bucket-count-requires : tie.Need-bucket-count-requires Inv-loop μ-loop
+bucket-count-requires c κs = search needs
+
+cast-buckets : tie.Need-cast-buckets Inv-loop μ-loop
+cast-buckets c = search needs
+
+loop-holds : tie.Need-loop-holds Inv-loop μ-loop
+loop-holds c =
+    let s = c .before .before in
+    pass-start (s .args .words .now) (s .pre) (s .args .x) (s .args .y)
+
+bucket-piece-requires : tie.Need-bucket-piece-requires Inv-loop μ-loop
+bucket-piece-requires c κs =
+    let s = c .before .before .before .before in
+    (s .pre, omega (arith, c .before .before .bucket-count .ensures))
+
+plus-requires : tie.Need-plus-requires Inv-loop μ-loop
+plus-requires c κs =
+    let s = c .before .before .before .before .before in
+    let l = c .before .before .loop in
+    pass-small (s .args .words .now) (s .pre) (s .args .x) (s .args .y) (l .sum) (l .b) (l .inv) (omega (arith, c .before .before .before .bucket-count .ensures)) _ (c .bucket-piece .ensures)
+
+add-b : tie.Need-add-b Inv-loop μ-loop
+add-b c = search needs
+
+loop-less : tie.Need-loop-less Inv-loop μ-loop
+loop-less c = search needs
+
+loop-again : tie.Need-loop-again Inv-loop μ-loop
+loop-again c =
+    let s = c .before .before .before .before .before .before in
+    let l = c .before .before .before .loop in
+    rw (add-one (l .b)) (pass-step (s .args .words .now) (s .pre) (s .args .x) (s .args .y) (l .sum) (l .b) (l .inv) (omega (arith, c .before .before .before .before .bucket-count .ensures)) _ _ (c .before .bucket-piece .ensures) (c .plus .ensures))
+
+returns : tie.Need-returns Inv-loop μ-loop
+returns c =
+    let s = c .before .before .before .before in
+    let l = c .before .loop in
+    (pass-end (s .args .words .now) (s .pre) (s .args .x) (s .args .y) (l .sum) (l .b) (l .inv) (omega (arith, c .before .before .bucket-count .ensures, l .inv .within)), passed-small (s .args .words .now) (s .pre) (s .args .x) (s .args .y) (l .sum) (l .b) (l .inv))
+
+pub exact-of-spec : {M : Type 1} → statement M
+exact-of-spec =
+    tie.close
+    (tie.spec
+    Inv-loop
+    μ-loop
+    bucket-count-requires
+    cast-buckets
+    loop-holds
+    bucket-piece-requires
+    plus-requires
+    add-b
+    loop-less
+    loop-again
+    returns)

@@ -1,0 +1,30 @@
+-- The words of the private contracts that add up a sum.
+-- Assumes nothing.
+use mathlib.Core.Path.{_≡_}
+use mathlib.Core.Bool.{true}
+use mathlib.Core.Logic.{_⊎_}
+use Prim.Native.Nat.{ℕ, _+_, _*_, _^_, _≤_, _<_}
+use Rattle.counts_rules.specs.Base.{base, usedClass}
+use Rattle.counts_rules.specs.Class.{classNumber}
+use Rattle.words_rules.specs.Limits.{maxWidth}
+use Rattle.estimate_rules.specs.declared.Fraction.{Fraction}
+use Rattle.estimate_rules.specs.Fraction.{plus}
+use Rattle.estimate_rules.specs.Exact.{piece}
+
+-- all that is reckoned with it stays far below 2^64
+pub record Small (e : Fraction) : Type 0 where
+  pub whole-small : e .whole ≤ 2 ^ 47
+  pub bottom-some : 0 < e .bottom
+  pub bottom-small : e .bottom ≤ maxWidth ^ 2
+  pub top-small : e .top ≤ 2 ^ 32 * e .bottom
+
+-- a class that a readable list may hold
+abbrev pub ClassIn : ℕ → Type 0
+ClassIn c = (c ≡ 0) ⊎ (usedClass c ≡ true)
+
+-- a bucketlet that may be added to a sum
+pub record Addable (sum : Fraction) (x y a w class : ℕ) : Type 0 where
+  pub class-in : ClassIn class
+  pub within : a + w ≤ 65536
+  pub number-small : classNumber base class ≤ 2 ^ 31
+  pub small : Small (plus sum (piece x y a w (classNumber base class)))

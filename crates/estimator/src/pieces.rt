@@ -1,0 +1,169 @@
+// What the buckets and bucketlets that a range meets give to its estimate.
+
+use counts::Meaning;
+use estimate_rules::Fraction;
+ghost use mathlib.Core.Path.{_≡_};
+ghost use mathlib.Core.Bool.{true};
+ghost use Prim.Native.Nat.{_+_, _^_, _≤_, _<_, min, max};
+ghost use Rattle.counts_rules.specs.Base.{base};
+ghost use Rattle.counts_rules.specs.Class.{classNumber};
+ghost use Rattle.counts_rules.specs.Total.{totalNumber, validCode};
+ghost use Rattle.words_rules.specs.Words.{buckets};
+ghost use Rattle.words_rules.specs.Reading.{Readable};
+ghost use Rattle.estimate_rules.specs.Fraction.{plus};
+ghost use Rattle.estimate_rules.specs.Exact.{inside, overlap, piece, bucketPiece, exact};
+ghost use Rattle.estimator.specs.Private.Adding.{Small, ClassIn, Addable};
+
+fn wide(x: u32) -> u64
+    ensures { λ r. ⌜ r ≡ x ⌝ }
+{
+    x as u64
+}
+
+// The number of a bucketlet's class, 0 of class 0.
+fn class_number(class: u32) -> u64
+    requires { ⌜ ClassIn class ⌝ }
+    ensures { λ r. ⌜ r ≡ classNumber base class ⌝ }
+{
+    let Meaning::Number(s) = counts::number_of_class(class) else {
+        return 0;
+    };
+    wide(s)
+}
+
+fn total_number(code: u32) -> u64
+    requires { ⌜ validCode code ≡ true ⌝ }
+    ensures { λ r. ⌜ r ≡ totalNumber code ⌝ }
+{
+    let Meaning::Number(s) = counts::number_of_total(code) else {
+        return 0;
+    };
+    wide(s)
+}
+
+// Whether the range from x to y holds the span from a to e.
+fn is_inside(x: u32, y: u32, a: u32, e: u32) -> bool
+    ensures { λ r. ⌜ r ≡ inside x y a e ⌝ }
+{
+    x <= a && e <= y
+}
+
+fn larger_of(a: u32, b: u32) -> u32
+    ensures { λ r. ⌜ r ≡ max a b ⌝ }
+{
+    if a < b { b } else { a }
+}
+
+fn smaller_of(a: u32, b: u32) -> u32
+    ensures { λ r. ⌜ r ≡ min a b ⌝ }
+{
+    if a < b { a } else { b }
+}
+
+// How many entries of the span from a to e the range from x to y holds.
+fn overlap_of(x: u32, y: u32, a: u32, e: u32) -> u32
+    ensures { λ r. ⌜ r ≡ overlap x y a e ⌝ }
+{
+    let from = larger_of(x, a);
+    let to = smaller_of(y, e);
+    if to < from { 0 } else { to - from }
+}
+
+fn plus(e: Fraction, f: Fraction) -> Fraction
+    requires { ⌜ Small (plus e f) ⌝ }
+    ensures { λ r. ⌜ r ≡ plus e f ⌝ }
+{
+    Fraction {
+        whole: e.whole + f.whole,
+        top: e.top * f.bottom + f.top * e.bottom,
+        bottom: e.bottom * f.bottom,
+    }
+}
+
+// What a bucketlet at a, of width w, that stands for s gives.
+fn piece_of(x: u32, y: u32, a: u32, w: u32, s: u64) -> Fraction
+    requires { ⌜ (a + w < 2 ^ 32) × (s ≤ 2 ^ 31) ⌝ }
+    ensures { λ r. ⌜ r ≡ piece x y a w s ⌝ }
+{
+    let n = overlap_of(x, y, a, a + w);
+    if n == 0 {
+        return Fraction {
+            whole: 0,
+            top: 0,
+            bottom: 1,
+        };
+    }
+    if is_inside(x, y, a, a + w) {
+        return Fraction {
+            whole: s,
+            top: 0,
+            bottom: 1,
+        };
+    }
+    Fraction {
+        whole: 0,
+        top: wide(n) * s,
+        bottom: wide(w),
+    }
+}
+
+// A sum and what a bucketlet at a, of width w and of a class, adds to it: nothing if the range holds no entry of it.
+fn with_piece(sum: Fraction, x: u32, y: u32, a: u32, w: u32, class: u32) -> Fraction
+    requires { ⌜ Addable sum x y a w class ⌝ }
+    ensures { λ r. ⌜ r ≡ plus sum (piece x y a w (classNumber base class)) ⌝ }
+{
+    if overlap_of(x, y, a, a + w) == 0 {
+        return sum;
+    }
+    plus(sum, piece_of(x, y, a, w, class_number(class)))
+}
+
+// What bucket b gives: its total if the range holds it, nothing if it holds no entry of it, else what its bucketlets give.
+fn bucket_piece(words: &[u32], x: u32, y: u32, b: usize) -> Fraction
+    requires { ⌜ Readable (now words) × (b < buckets (now words)) ⌝ }
+    ensures { λ r. ⌜ r ≡ bucketPiece (now (words .entry)) x y b ⌝ }
+{
+    let start = words::start_at(words, b);
+    let end = words::end_at(words, b);
+    let mut sum = Fraction {
+        whole: 0,
+        top: 0,
+        bottom: 1,
+    };
+    if overlap_of(x, y, start, end) == 0 {
+        return sum;
+    }
+    let bucket = words::bucket_at(words, b);
+    if is_inside(x, y, start, end) {
+        return Fraction {
+            whole: total_number(bucket.total),
+            top: 0,
+            bottom: 1,
+        };
+    }
+    let mut a = start;
+    for k in 0..8usize {
+        let w = bucket.widths[k];
+        sum = with_piece(sum, x, y, a, w, bucket.classes[k]);
+        a += w;
+    }
+    sum
+}
+
+// The sum that estimates the range, not yet rounded.
+pub(crate) fn exact_of(words: &[u32], x: u32, y: u32) -> Fraction
+    requires { ⌜ Readable (now words) ⌝ }
+    ensures { λ r. ⌜ r ≡ exact (now (words .entry)) x y ⌝ }
+    ensures { λ r. ⌜ Small r ⌝ }
+{
+    let buckets = words::bucket_count(words) as usize;
+    let mut sum = Fraction {
+        whole: 0,
+        top: 0,
+        bottom: 1,
+    };
+    for b in 0..buckets {
+        sum = plus(sum, bucket_piece(words, x, y, b));
+    }
+    sum
+}

@@ -1,0 +1,42 @@
+-- `finder::find_fault` meets its contract: the list is tested first, and then the entry.
+-- Assumes nothing.
+use mathlib.Core.Path.{sym, ap, _∙_}
+use mathlib.Core.Bool.{Bool, cond}
+use native.Mathlib.Omega.{arith}
+use borrow.Author.Needs.{needs}
+use borrow.Author.Tests.{le-leb}
+use Rattle.words_rules.specs.Words.{entries}
+use Rattle.words_rules.specs.Reading.{Readable}
+use Rattle.words_rules.proofs.EntryLaws.{fault-of-list, fault-of-entry, no-find-fault}
+use Rattle.finder.proofs.find_fault.Statement.{statement}
+use Rattle.finder.proofs.find_fault.Tie as tie
+
+read-fault-requires : tie.Need-read-fault-requires
+read-fault-requires c κs = search needs
+
+returns : tie.Need-returns
+returns c =
+    let a = c .before .before .before .args in
+    let r = c .before .read-fault .ensures in
+    r ∙ sym (fault-of-list (a .words .now) (a .entry) (λ e. omega arith))
+
+entry-count-requires : tie.Need-entry-count-requires
+entry-count-requires c κs = search needs
+
+returns-2 : tie.Need-returns-2
+returns-2 c =
+    let a = c .before .before .before .before .before .args in
+    let readable : Readable (a .words .now) = omega (arith, c .before .before .before .read-fault .ensures) in
+    let d = c .before .entry-count .ensures in
+    sym (fault-of-entry (a .words .now) (a .entry) readable ∙ ap (λ (t : Bool). cond t 15 0) (le-leb (entries (a .words .now)) (a .entry) (omega arith)))
+
+returns-3 : tie.Need-returns-3
+returns-3 c =
+    let a = c .before .before .before .before .before .args in
+    let readable : Readable (a .words .now) = omega (arith, c .before .before .before .read-fault .ensures) in
+    let d = c .before .entry-count .ensures in
+    sym (no-find-fault (a .words .now) (a .entry) readable (omega arith))
+
+pub find-fault-spec : {M : Type 1} → statement M
+find-fault-spec =
+    tie.close (tie.spec read-fault-requires returns entry-count-requires returns-2 returns-3)

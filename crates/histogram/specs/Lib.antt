@@ -1,7 +1,0 @@
-pub mod Width
-pub mod Bucket
-pub mod Words
-pub mod Building
-pub mod Claims
-pub mod Worked
-pub mod Private

@@ -1,8 +1,0 @@
-pub mod Shown
-pub mod DecodedLaws
-pub mod HeadLaws
-pub mod StartLaws
-pub mod CodeLaws
-pub mod ReadingLaws
-pub mod EntryLaws
-pub mod Proved

@@ -1,7 +1,0 @@
-pub mod Limits
-pub mod Words
-pub mod Decoded
-pub mod Reading
-pub mod Finding
-pub mod Examples
-pub mod Claims

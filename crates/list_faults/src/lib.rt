@@ -1,0 +1,121 @@
+// What a frequency list, theta and q are held to: sentences 1 to 5.
+
+ghost use mathlib.Core.Path.{_≡_};
+ghost use Prim.Native.Nat.{_≤_};
+ghost use lib.ListN.{length};
+ghost use Rattle.laws.specs.Between.{between};
+ghost use Rattle.laws.specs.Sums.{sum};
+ghost use Rattle.laws.specs.Refusal.{refusal};
+ghost use Rattle.list_rules.specs.Limits.{maxEntries, entriesGood, thetaGood, qGood};
+ghost use Rattle.list_rules.specs.Frequencies.{zeroFault, listFault};
+ghost use Rattle.list_rules.specs.Quality.{qualitySentences, inputSentences};
+
+// Whether a number is one of those from `least` to `most`.
+pub fn is_between(least: u32, most: u32, n: u32) -> bool
+    ensures { λ r. ⌜ r ≡ between least most n ⌝ }
+{
+    least <= n && n <= most
+}
+
+// Of d, the number of entries.
+pub fn entries_good(entries: u32) -> bool
+    ensures { λ r. ⌜ r ≡ entriesGood entries ⌝ }
+{
+    is_between(1, 65536, entries)
+}
+
+pub fn theta_good(theta: u32) -> bool
+    ensures { λ r. ⌜ r ≡ thetaGood theta ⌝ }
+{
+    is_between(1, 1048575, theta)
+}
+
+// qn and qd are tested before they are multiplied.
+pub fn q_good(qn: u32, qd: u32) -> bool
+    ensures { λ r. ⌜ r ≡ qGood qn qd ⌝ }
+{
+    if qn < 1 || 1000 < qn {
+        return false;
+    }
+    if qd < 1 || 1000 < qd {
+        return false;
+    }
+    5 * qd <= 4 * qn
+}
+
+fn wide(x: u32) -> u64
+    ensures { λ r. ⌜ r ≡ x ⌝ }
+{
+    x as u64
+}
+
+// Whether a frequency is 0.
+fn has_zero(freqs: &[u32]) -> bool
+    ensures { λ r. ⌜ r ≡ zeroFault (now (freqs .entry)) ⌝ }
+{
+    let mut i: usize = 0;
+    while i < freqs.len() {
+        if freqs[i] == 0 {
+            return true;
+        }
+        i += 1;
+    }
+    false
+}
+
+// The sum of at most 65,536 frequencies.
+fn sum_of(freqs: &[u32]) -> u64
+    requires { ⌜ length (now freqs) ≤ maxEntries ⌝ }
+    ensures { λ r. ⌜ r ≡ sum (now (freqs .entry)) ⌝ }
+{
+    let mut sum: u64 = 0;
+    let mut i: usize = 0;
+    while i < freqs.len() {
+        sum += wide(freqs[i]);
+        i += 1;
+    }
+    sum
+}
+
+// 1, 2 or 3 if that sentence is true of the list and none before it is, else 0. The first is decided by the length alone.
+pub fn list_fault(freqs: &[u32]) -> u32
+    ensures { λ r. ⌜ r ≡ listFault (now (freqs .entry)) ⌝ }
+{
+    if freqs.len() < 1 {
+        return 1;
+    }
+    if 65536 < freqs.len() {
+        return 1;
+    }
+    if has_zero(freqs) {
+        return 2;
+    }
+    if 1073741823 < sum_of(freqs) {
+        return 3;
+    }
+    0
+}
+
+// 4 or 5 if that sentence is true of theta and q and none before it is, else 0.
+pub fn quality_fault(theta: u32, qn: u32, qd: u32) -> u32
+    ensures { λ r. ⌜ r ≡ refusal (qualitySentences theta qn qd) ⌝ }
+{
+    if !theta_good(theta) {
+        return 4;
+    }
+    if !q_good(qn, qd) {
+        return 5;
+    }
+    0
+}
+
+// 1 to 5: the first of these sentences that is true of what the builder is given, else 0.
+pub fn input_fault(freqs: &[u32], theta: u32, qn: u32, qd: u32) -> u32
+    ensures { λ r. ⌜ r ≡ refusal (inputSentences (now (freqs .entry)) theta qn qd) ⌝ }
+{
+    let fault = list_fault(freqs);
+    if fault != 0 {
+        return fault;
+    }
+    quality_fault(theta, qn, qd)
+}

@@ -1,0 +1,4 @@
+pub mod Limits
+pub mod Frequencies
+pub mod Quality
+pub mod Private

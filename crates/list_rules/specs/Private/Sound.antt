@@ -1,0 +1,21 @@
+-- What sentences 1 to 5 ask of a list, of theta and of q, as statements.
+-- Assumes nothing.
+use mathlib.Core.List.{List}
+use Prim.Native.Nat.{ℕ, _*_, _≤_, _<_}
+use lib.ListN.{length, getD}
+use Rattle.laws.specs.Sums.{sum}
+use Rattle.counts_rules.specs.Base.{limit}
+use Rattle.list_rules.specs.Limits.{maxEntries, maxTheta, maxQ}
+use Rattle.list_rules.specs.declared.Quality.{Quality}
+
+pub record Sound (fs : List ℕ) (q : Quality) : Type 0 where
+  pub some : 1 ≤ length fs
+  pub many : length fs ≤ maxEntries
+  pub positive : (i : ℕ) → i < length fs → 0 < getD fs i 0
+  pub total : sum fs ≤ limit
+  pub theta-some : 1 ≤ q .theta
+  pub theta-small : q .theta ≤ maxTheta
+  pub qn-small : q .qn ≤ maxQ
+  pub qd-some : 1 ≤ q .qd
+  pub qd-small : q .qd ≤ maxQ
+  pub factor : 5 * q .qd ≤ 4 * q .qn

@@ -1,0 +1,56 @@
+// The numbers of the exam sheet's input.
+
+mod line;
+
+use line::Line;
+use line::line_at;
+ghost use mathlib.Core.Path.{_≡_};
+ghost use mathlib.Core.List.{[]};
+ghost use Rattle.sheet_input.specs.Numbers.{numbersOf, inputNumbers};
+
+pub const MOST_NUMBERS: usize = 4099;
+
+// The first `count` values are the numbers, and those after them are 0; or the refusal 18.
+pub struct Numbers {
+    pub refusal: u32,
+    pub count: usize,
+    pub values: [u32; 4099],
+}
+
+fn refused() -> Numbers
+    ensures { λ r. ⌜ r ≡ numbersOf 18 [] ⌝ }
+{
+    Numbers {
+        refusal: 18,
+        count: 0,
+        values: [0; 4099],
+    }
+}
+
+// The numbers of an input: theta, qn and qd, then 1 to 4,096 frequencies. Refused with 18 where it is not as described.
+pub fn numbers_of(input: &[u8]) -> Numbers
+    ensures { λ r. ⌜ r ≡ inputNumbers (now (input .entry)) ⌝ }
+{
+    let mut values = [0u32; 4099];
+    let mut n: usize = 0;
+    let mut start: usize = 0;
+    while start < input.len() {
+        let Line::Number(value, next) = line_at(input, start) else {
+            return refused();
+        };
+        if n == MOST_NUMBERS {
+            return refused();
+        }
+        values[n] = value;
+        n += 1;
+        start = next;
+    }
+    if n < 4 {
+        return refused();
+    }
+    Numbers {
+        refusal: 0,
+        count: n,
+        values,
+    }
+}

@@ -1,0 +1,40 @@
+-- The worked examples hold of the definitions, by computation. Assumes nothing.
+use mathlib.Core.Path.{refl}
+use Rattle.laws.specs.Search.{first, largest, root}
+use Rattle.laws.specs.Each.{each, some}
+use Rattle.laws.specs.Refusal.{refusal}
+use Rattle.counts_rules.specs.Class.{classOf, classNumber}
+use Rattle.counts_rules.specs.Total.{highestBit, shift, bits, totalCode, middle, totalNumber}
+use Rattle.words_rules.specs.Decoded.{decode, encode}
+use Rattle.list_rules.specs.Frequencies.{entriesFault, zeroFault, sumFault}
+use Rattle.fit.specs.Fit.{rangesFit, bucketletFits}
+use Rattle.build_rules.specs.Width.{fitsAt, width}
+use Rattle.build_rules.specs.Bucket.{widthsFrom, bucketWidths, classesFrom, bucketFrom}
+use Rattle.build_rules.specs.Words.{bucketsFrom, bucketWordsOf, words}
+use Rattle.sheet_rules.specs.Text.{digits, places}
+use Rattle.sheet_rules.specs.Input.{lines, every, valueAfter, numeral, numbers, asDescribed}
+use Rattle.sheet_rules.specs.Sheet.{joined, bucketletPart, bucketPart, histogramSheet, listSheet, numbersSheet, sheet}
+use Rattle.sheet_rules.specs.Worked.{Worked}
+
+pub worked : Worked
+unfolding first largest root each some refusal classOf classNumber highestBit shift bits totalCode middle totalNumber decode encode entriesFault zeroFault sumFault rangesFit bucketletFits fitsAt width widthsFrom bucketWidths classesFrom bucketFrom bucketsFrom bucketWordsOf words digits places lines every valueAfter numeral numbers asDescribed joined bucketletPart bucketPart histogramSheet listSheet numbersSheet sheet
+worked =
+    record {
+      pair = refl;
+      unreduced = refl;
+      zero = refl;
+      sum = refl;
+      theta = refl;
+      q = refl;
+      no-list = refl;
+      no-input = refl;
+      not-ended = refl;
+      empty-line = refl;
+      carriage-return = refl;
+      sign = refl;
+      leading-zero = refl;
+      space = refl;
+      largest = refl;
+      larger = refl;
+      twenty-digits = refl;
+    }

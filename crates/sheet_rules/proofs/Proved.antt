@@ -1,0 +1,82 @@
+-- The claims of specs/Claims.antt, each from its law. Assumes nothing.
+use mathlib.Core.Path.{_≡_, sym, ap, _∙_}
+use mathlib.Core.Bool.{Bool, true, false, cond}
+use mathlib.Core.List.{List, _++_}
+use mathlib.Core.Logic.{⊎-elim}
+use Prim.Native.Nat.{ℕ, _+_, _≤_, _<_}
+use native.Mathlib.Nat.{le-trans}
+use native.Mathlib.Omega.{arith}
+use lib.Dec.{leb}
+use borrow.Author.Tests.{leb-true, leb-false}
+use lib.ListN.{length, getD, take, drop, length-drop, length-map}
+use lib.Seq.{take-all, length-take-le}
+use Rattle.laws.proofs.Tests.{tested, is-false}
+use Rattle.sheet_rules.specs.Input.{lines, value, asDescribed, numbers}
+use Rattle.sheet_rules.specs.Lines.{refusedLine}
+use Rattle.sheet_rules.specs.Sheet.{numbersSheet, sheet, filled}
+use Rattle.sheet_rules.specs.Claims.{maxInput, maxSheet, Exam}
+use Rattle.sheet_rules.proofs.TextLaws.{places-some, below-power, reaches-power}
+use Rattle.sheet_rules.proofs.LinesLaws.{described, input-short, read, written}
+use Rattle.sheet_rules.proofs.SheetLaws.{refused-short, list-short, filled-whole}
+
+-- ---- what is printed, by whether the input is as described
+
+pub sheet-refused : (input : List ℕ) → asDescribed input ≡ false → sheet input ≡ refusedLine 18
+unfolding sheet
+sheet-refused input e = ap (λ (t : Bool). cond t (numbersSheet (numbers input)) (refusedLine 18)) e
+
+pub sheet-read : (input : List ℕ) → asDescribed input ≡ true → sheet input ≡ numbersSheet (numbers input)
+unfolding sheet
+sheet-read input e = ap (λ (t : Bool). cond t (numbersSheet (numbers input)) (refusedLine 18)) e
+
+pub numbers-many : (input : List ℕ) → asDescribed input ≡ true → (4 ≤ length (numbers input)) × (length (numbers input) ≤ 4099)
+unfolding numbers
+numbers-many input h =
+    let d = described input h in
+    (omega (arith, d .many .least, length-map (lines input .ended) value), omega (arith, d .many .most, length-map (lines input .ended) value))
+
+-- ---- the claims
+
+long : (input : List ℕ) → maxInput < length input → sheet input ≡ refusedLine 18
+long input h = sheet-refused input (is-false (asDescribed input) (λ d. let s = input-short input d in omega arith))
+
+cut : (input : List ℕ) → sheet (take (maxInput + 1) input) ≡ sheet input
+cut input = ⊎-elim all longer (tested (leb (length input) (maxInput + 1)))
+  where
+    all : leb (length input) (maxInput + 1) ≡ true → sheet (take (maxInput + 1) input) ≡ sheet input
+    all t = ap sheet (take-all (maxInput + 1) input (leb-true _ _ t))
+
+    longer : leb (length input) (maxInput + 1) ≡ false → sheet (take (maxInput + 1) input) ≡ sheet input
+    longer t =
+        let many = leb-false (length input) (maxInput + 1) t in
+        long (take (maxInput + 1) input) (omega (arith, length-take-le (maxInput + 1) input (omega (arith, many)))) ∙ sym (long input (omega (arith, many)))
+
+short : (input : List ℕ) → length (sheet input) ≤ maxSheet
+unfolding numbersSheet
+short input = ⊎-elim described-short refused (tested (asDescribed input))
+  where
+    ns : List ℕ
+    ns = numbers input
+
+    described-short : asDescribed input ≡ true → length (sheet input) ≤ maxSheet
+    described-short t =
+        let few = list-short (drop 3 ns) (getD ns 0 0) (getD ns 1 0) (getD ns 2 0) (omega (arith, length-drop 3 ns, numbers-many input t .1)) in
+        omega (arith, few, ap length (sheet-read input t))
+
+    refused : asDescribed input ≡ false → length (sheet input) ≤ maxSheet
+    refused t = omega (arith, refused-short 18 (omega arith) .within, ap length (sheet-refused input t))
+
+whole : (input old : List ℕ) → maxSheet ≤ length old → filled old (sheet input) ≡ sheet input ++ drop (length (sheet input)) old
+whole input old h = filled-whole old (sheet input) (le-trans (short input) h)
+
+pub exam : Exam
+exam =
+    record {
+      digit-count = λ n. record { some = places-some n; holds = below-power n; fewest = reaches-power n };
+      read = read;
+      written = written;
+      long = long;
+      cut = cut;
+      short = short;
+      whole = whole;
+    }

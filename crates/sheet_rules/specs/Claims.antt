@@ -1,0 +1,46 @@
+-- What is claimed of the exam sheet; proofs/Proved.antt proves it.
+-- Assumes nothing.
+use mathlib.Core.Path.{_≡_}
+use mathlib.Core.Bool.{true}
+use mathlib.Core.List.{List, [], _∷_, _++_}
+use Prim.Native.Nat.{ℕ, _+_, _-_, _^_, _≤_, _<_}
+use lib.Dec.{ltb}
+use lib.ListN.{length, take, drop}
+use Rattle.sheet_rules.specs.Text.{places, decimal}
+use Rattle.sheet_rules.specs.Input.{lineFeed, every, leastNumbers, mostNumbers, asDescribed, numbers}
+use Rattle.sheet_rules.specs.Lines.{refusedLine}
+use Rattle.sheet_rules.specs.Sheet.{sheet, filled}
+
+-- numbers, one a line
+unfoldable pub asLines : List ℕ → List ℕ
+asLines [] = []
+asLines (n ∷ ns) = decimal n ++ (lineFeed ∷ []) ++ asLines ns
+
+-- the longest input: 4,099 lines of ten digits
+abbrev pub maxInput : ℕ
+maxInput = 45089
+
+-- the longest sheet, counted by the longest lines
+abbrev pub maxSheet : ℕ
+maxSheet = 163377
+
+-- n has k digits: at least one, and as few as hold it
+pub record DigitCount (n k : ℕ) : Type 0 where
+  pub some : 1 ≤ k
+  pub holds : n < 10 ^ k
+  pub fewest : 1 < k → 10 ^ (k - 1) ≤ n
+
+pub record Exam : Type 0 where
+  -- a number is written with as many digits as it needs
+  pub digit-count : (n : ℕ) → DigitCount n (places n)
+  -- an input is as described exactly if it is that many numbers, below 2^32, one a line; these are its numbers
+  pub read : (ns : List ℕ) → every (λ n. ltb n (2 ^ 32)) ns ≡ true → leastNumbers ≤ length ns → length ns ≤ mostNumbers
+      → (asDescribed (asLines ns) ≡ true) × (numbers (asLines ns) ≡ ns)
+  pub written : (input : List ℕ) → asDescribed input ≡ true → asLines (numbers input) ≡ input
+  -- a longer input is refused with 18 whatever follows, so that reading may stop after one byte more
+  pub long : (input : List ℕ) → maxInput < length input → sheet input ≡ refusedLine 18
+  pub cut : (input : List ℕ) → sheet (take (maxInput + 1) input) ≡ sheet input
+  -- what is printed has an end
+  pub short : (input : List ℕ) → length (sheet input) ≤ maxSheet
+  -- so where that many bytes are lent, they begin with all of it
+  pub whole : (input old : List ℕ) → maxSheet ≤ length old → filled old (sheet input) ≡ sheet input ++ drop (length (sheet input)) old

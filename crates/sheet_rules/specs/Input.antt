@@ -1,0 +1,71 @@
+-- The input of the exam sheet (document 01, "The exam sheet"; sentence 18).
+-- Assumes nothing.
+use mathlib.Core.Bool.{Bool, true, not, cond, _&&_}
+use mathlib.Core.List.{List, [], _∷_, map}
+use Prim.Native.Nat.{ℕ, _+_, _-_, _*_, _^_}
+use lib.Dec.{ltb, eqb}
+use lib.ListN.{length, getD}
+use Rattle.laws.specs.Between.{between}
+
+abbrev pub lineFeed : ℕ
+lineFeed = 10
+
+-- bytes as lines: those that a line feed ends, without it, and what follows the last line feed
+pub record Lines : Type 0 where
+  pub ended : List (List ℕ)
+  pub rest : List ℕ
+
+-- a byte in front of the first line, which may be the one that is not ended
+abbrev pub inFront : ℕ → List (List ℕ) → List ℕ → Lines
+inFront c [] rest = record { ended = []; rest = c ∷ rest }
+inFront c (l ∷ ls) rest = record { ended = (c ∷ l) ∷ ls; rest = rest }
+
+-- an empty line in front of them
+abbrev pub lineInFront : Lines → Lines
+lineInFront ls = record { ended = [] ∷ ls .ended; rest = ls .rest }
+
+unfoldable pub lines : List ℕ → Lines
+lines [] = record { ended = []; rest = [] }
+lines (c ∷ cs) = cond (eqb c lineFeed) (lineInFront (lines cs)) (inFront c (lines cs .ended) (lines cs .rest))
+
+-- every element passes
+unfoldable pub every : {A : Type 0} → (A → Bool) → List A → Bool
+every p [] = true
+every p (x ∷ xs) = p x && every p xs
+
+abbrev pub digit : ℕ → Bool
+digit c = between 48 57 c
+
+-- 0 itself may stand
+abbrev pub leadingZero : List ℕ → Bool
+leadingZero l = eqb (getD l 0 0) 48 && ltb 1 (length l)
+
+-- the number of decimal digits that follow those of n
+unfoldable pub valueAfter : ℕ → List ℕ → ℕ
+valueAfter n [] = n
+valueAfter n (c ∷ cs) = valueAfter (10 * n + (c - 48)) cs
+
+abbrev pub value : List ℕ → ℕ
+value l = valueAfter 0 l
+
+-- a line is a decimal number without leading zeros, below 4,294,967,296
+unfoldable pub numeral : List ℕ → Bool
+numeral l = ltb 0 (length l) && every digit l && not (leadingZero l) && ltb (value l) (2 ^ 32)
+
+-- each line is a number and is ended by a line feed
+abbrev pub allNumerals : Lines → Bool
+allNumerals ls = every numeral (ls .ended) && eqb (length (ls .rest)) 0
+
+-- the numbers of the lines
+unfoldable pub numbers : List ℕ → List ℕ
+numbers input = map value (lines input .ended)
+
+-- theta, qn and qd, then 1 to 4,096 frequencies
+abbrev pub leastNumbers : ℕ
+leastNumbers = 4
+
+abbrev pub mostNumbers : ℕ
+mostNumbers = 4099
+
+unfoldable pub asDescribed : List ℕ → Bool
+asDescribed input = allNumerals (lines input) && between leastNumbers mostNumbers (length (numbers input))

@@ -1,0 +1,33 @@
+-- Document 01's example of the exam sheet, and inputs that are easily got wrong.
+-- Assumes nothing.
+use mathlib.Core.Path.{_≡_}
+use mathlib.Core.Bool.{false}
+use mathlib.Core.List.{[], _∷_, _++_}
+use Rattle.sheet_rules.specs.Text.{ascii}
+use Rattle.sheet_rules.specs.Input.{asDescribed, numbers}
+use Rattle.sheet_rules.specs.Sheet.{sheet}
+
+pub record Worked : Type 0 where
+  pub pair :
+      sheet (ascii "1\n3\n2\n1\n100\n")
+      ≡ ascii "codes 2 theta 1 q 3/2 buckets 1\n" ++ ascii "bucket 0 2 total 3232 101\n" ++ ascii "0 1 code 1 count 1\n" ++ ascii "1 2 code 14 count 93\n"
+  -- q is printed as it was given
+  pub unreduced :
+      sheet (ascii "1\n6\n4\n10\n")
+      ≡ ascii "codes 1 theta 1 q 6/4 buckets 1\n" ++ ascii "bucket 0 1 total 320 10\n" ++ ascii "0 1 code 7 count 8\n"
+  -- 18 comes before every other number, then 2 before 4 and 5
+  pub zero : sheet (ascii "0\n0\n0\n0\n") ≡ ascii "refused 2\n"
+  pub sum : sheet (ascii "1\n3\n2\n1073741823\n1\n") ≡ ascii "refused 3\n"
+  pub theta : sheet (ascii "0\n0\n0\n1\n") ≡ ascii "refused 4\n"
+  pub q : sheet (ascii "1\n124\n100\n1\n") ≡ ascii "refused 5\n"
+  pub no-list : sheet (ascii "1\n3\n2\n") ≡ ascii "refused 18\n"
+  pub no-input : sheet [] ≡ ascii "refused 18\n"
+  pub not-ended : asDescribed (ascii "1\n3\n2\n1") ≡ false
+  pub empty-line : asDescribed (ascii "1\n3\n2\n1\n\n") ≡ false
+  pub carriage-return : asDescribed (ascii "1\n3\n2\n1\r\n") ≡ false
+  pub sign : asDescribed (ascii "1\n3\n2\n+1\n") ≡ false
+  pub leading-zero : asDescribed (ascii "1\n3\n2\n01\n") ≡ false
+  pub space : asDescribed (ascii "1\n3\n2\n1 \n") ≡ false
+  pub largest : numbers (ascii "1\n3\n2\n4294967295\n") ≡ 1 ∷ 3 ∷ 2 ∷ 4294967295 ∷ []
+  pub larger : asDescribed (ascii "1\n3\n2\n4294967296\n") ≡ false
+  pub twenty-digits : asDescribed (ascii "1\n3\n2\n18446744073709551617\n") ≡ false

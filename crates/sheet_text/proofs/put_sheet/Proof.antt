@@ -1,0 +1,92 @@
+-- `sheet_text::put_sheet` meets its contract: an input that is not as described is refused with 18, and the numbers of any other are those of the
+-- definition. Assumes nothing.
+use mathlib.Core.Path.{_≡_}
+use native.Mathlib.Omega.{arith}
+use borrow.Author.Needs.{needs}
+use Prim.Native.Nat.{_-_}
+use lib.ListN.{length, drop, length-drop}
+use lib.Seq.{length-take-le}
+use Rattle.sheet_text.proofs.PrintLaws.{put-line, refused-room}
+use Rattle.sheet_text.proofs.ListLaws.{refused-small, refused-input, count-many, read-sheet, put-sheet}
+use Rattle.sheet_text.proofs.put_sheet.Statement.{statement}
+use Rattle.sheet_text.proofs.put_sheet.Tie as tie
+
+numbers-of-requires : tie.Need-numbers-of-requires
+numbers-of-requires c κs = search needs
+
+refused-line-requires : tie.Need-refused-line-requires
+refused-line-requires c κs = search needs
+
+put-requires : tie.Need-put-requires
+put-requires c κs =
+    let a = c .before .before .before .before .before .before .args in
+    let r = c .before .before .before .before .numbers-of in
+    let l = c .before .refused-line in
+    refused-room (l .result) _ (l .ensures) (refused-small (a .input .now) (r .result) (r .ensures))
+
+returns : tie.Need-returns
+returns c =
+    let a = c .before .before .before .before .before .before .before .args in
+    let r = c .before .before .before .before .before .numbers-of in
+    let l = c .before .before .refused-line in
+    put-sheet (a .input .now) _ (a .out .now) _ (c .put .result) (refused-input (a .input .now) (r .result) (r .ensures) (λ z. omega arith))
+    (put-line (l .result) _ (l .ensures) (c .put .ensures))
+
+array-read-theta : tie.Need-array-read-theta
+array-read-theta c = search needs
+
+array-read-qn : tie.Need-array-read-qn
+array-read-qn c = search needs
+
+array-read-qd : tie.Need-array-read-qd
+array-read-qd c = search needs
+
+sub-put-list : tie.Need-sub-put-list
+sub-put-list c =
+    let r = c .before .before .before .numbers-of in
+    omega (arith, count-many _ (r .result) (r .ensures) (omega arith) .0)
+
+part-put-list-start : tie.Need-part-put-list-start
+part-put-list-start c =
+    let r = c .before .before .before .before .numbers-of in
+    omega (arith, count-many _ (r .result) (r .ensures) (omega arith) .0)
+
+part-put-list-end : tie.Need-part-put-list-end
+part-put-list-end c =
+    let r = c .before .before .before .before .numbers-of in
+    let all : length (r .result .values) ≡ 4099 = search needs in
+    omega (arith, all, count-many _ (r .result) (r .ensures) (omega arith) .1)
+
+put-list-requires : tie.Need-put-list-requires
+put-list-requires c κs =
+    let r = c .before .before .before .before .before .before .numbers-of in
+    let all : length (r .result .values) ≡ 4099 = search needs in
+    let many = count-many _ (r .result) (r .ensures) (omega arith) in
+    omega (
+      arith,
+      many .1,
+      length-take-le (r .result .count - 3) (drop 3 (r .result .values)) (omega (arith, all, many .1, length-drop 3 (r .result .values))),
+    )
+
+returns-2 : tie.Need-returns-2
+returns-2 c =
+    let a = c .before .before .before .before .before .before .before .before .before .args in
+    let r = c .before .before .before .before .before .before .before .numbers-of in
+    put-sheet (a .input .now) _ (a .out .now) _ (c .put-list .result) (read-sheet (a .input .now) (r .result) (r .ensures) (omega arith)) (c .put-list .ensures)
+
+pub put-sheet-spec : {M : Type 1} → statement M
+put-sheet-spec =
+    tie.close
+    (tie.spec
+    numbers-of-requires
+    refused-line-requires
+    put-requires
+    returns
+    array-read-theta
+    array-read-qn
+    array-read-qd
+    sub-put-list
+    part-put-list-start
+    part-put-list-end
+    put-list-requires
+    returns-2)

@@ -1,0 +1,93 @@
+-- `words_faults::codes_broken` meets its contract: the loop's invariant is that no class before k is broken, and its measure what is left of the
+-- eight.
+-- Assumes nothing.
+use borrow.Author.Needs.{needs}
+use mathlib.Core.Path.{_≡_, sym, ap, _∙_}
+use mathlib.Core.Bool.{Bool, false, not, _||_}
+use Prim.Native.Nat.{ℕ, _-_, _≤_, _<_}
+use native.Mathlib.Omega.{arith}
+use borrow.Author.Count.{below-more}
+use lib.ListN.{getD}
+use Rattle.laws.specs.Each.{some}
+use Rattle.laws.proofs.EachLaws.{some-at, some-none}
+use Rattle.laws.proofs.Tests.{holds-left}
+use Rattle.counts_rules.specs.Total.{validCode}
+use Rattle.words_rules.specs.Reading.{classBroken, codesBroken}
+use Rattle.words_rules.specs.declared.Bucket.{Bucket}
+use Rattle.words_faults.proofs.codes_broken.Statement.{statement}
+use Rattle.words_faults.proofs.codes_broken.Tie as tie
+
+abbrev brokenAt : Bucket → ℕ → Bool
+brokenAt r k = classBroken (getD (r .widths) k 0) (getD (r .classes) k 0)
+
+abbrev Inv-loop : tie.InvT-loop
+Inv-loop bucket k₀ k = (k ≤ 8) × ((i : ℕ) → i < k → brokenAt bucket i ≡ false)
+
+abbrev μ-loop : tie.MeasureT-loop
+μ-loop bucket k₀ k = 8 - k
+
+loop-holds : tie.Need-loop-holds Inv-loop μ-loop
+loop-holds c = (search needs, λ i h. absurd (omega arith))
+
+mul-class-broken : tie.Need-mul-class-broken Inv-loop μ-loop
+mul-class-broken c = omega arith
+
+element-copy-out-class-broken : tie.Need-element-copy-out-class-broken Inv-loop μ-loop
+element-copy-out-class-broken c = omega arith
+
+mul-class-broken-2 : tie.Need-mul-class-broken-2 Inv-loop μ-loop
+mul-class-broken-2 c = omega arith
+
+element-copy-out-class-broken-2 : tie.Need-element-copy-out-class-broken-2 Inv-loop μ-loop
+element-copy-out-class-broken-2 c = omega arith
+
+class-broken-requires : tie.Need-class-broken-requires Inv-loop μ-loop
+class-broken-requires c κs = search needs
+
+returns : tie.Need-returns Inv-loop μ-loop
+unfolding codesBroken
+returns c =
+    let r = c .before .before .before .before .before .before .args .t1 in
+    let k = c .before .before .before .before .before .loop .k in
+    sym (holds-left (some 8 (brokenAt r)) _ (some-at 8 (brokenAt r) k (omega arith) (sym (c .before .class-broken .ensures) ∙ c .if1 .taken)))
+
+add-k : tie.Need-add-k Inv-loop μ-loop
+add-k c = search needs
+
+loop-less : tie.Need-loop-less Inv-loop μ-loop
+loop-less c = search needs
+
+loop-again : tie.Need-loop-again Inv-loop μ-loop
+loop-again c =
+    let k = c .before .before .before .before .before .loop in
+    (search needs, below-more _ _ (k .inv .1) (sym (c .before .class-broken .ensures) ∙ c .if1 .left))
+
+is-total-code-requires : tie.Need-is-total-code-requires Inv-loop μ-loop
+is-total-code-requires c κs = search needs
+
+returns-2 : tie.Need-returns-2 Inv-loop μ-loop
+unfolding codesBroken
+returns-2 c =
+    let r = c .before .before .before .args .t1 in
+    let l = c .before .before .loop in
+    let none : some 8 (brokenAt r) ≡ false = some-none 8 (brokenAt r) (λ i h. l .inv .1 i (omega arith)) in
+    ap not (c .is-total-code .ensures) ∙ ap (λ (t : Bool). t || not (validCode (r .total))) (sym none)
+
+pub codes-broken-spec : {M : Type 1} → statement M
+codes-broken-spec =
+    tie.close
+    (tie.spec
+    Inv-loop
+    μ-loop
+    loop-holds
+    mul-class-broken
+    element-copy-out-class-broken
+    mul-class-broken-2
+    element-copy-out-class-broken-2
+    class-broken-requires
+    returns
+    add-k
+    loop-less
+    loop-again
+    is-total-code-requires
+    returns-2)

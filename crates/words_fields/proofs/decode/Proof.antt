@@ -1,0 +1,80 @@
+-- `words_fields::decode` meets its contract, part by part by what the calls ensure.
+-- Assumes nothing.
+use mathlib.Core.Path.{ap, _∙_}
+use Prim.Native.Nat.{ℕ, _-_}
+use borrow.Author.Needs.{needs}
+use lib.Dec.{eqb}
+use Rattle.laws.specs.Sums.{sum}
+use Rattle.words_rules.specs.Decoded.{withFree, decode}
+use Rattle.words_rules.proofs.DecodedLaws.{listed-bits}
+use Rattle.words_fields.proofs.decode.Statement.{statement}
+use Rattle.words_fields.proofs.decode.Tie as tie
+
+listed-of-requires : tie.Need-listed-of-requires
+listed-of-requires c κs = search needs
+
+array-read-start-of : tie.Need-array-read-start-of
+array-read-start-of c = search needs
+
+start-of-requires : tie.Need-start-of-requires
+start-of-requires c κs = search needs
+
+array-read-field-of : tie.Need-array-read-field-of
+array-read-field-of c = search needs
+
+field-of-requires : tie.Need-field-of-requires
+field-of-requires c κs = search needs
+
+left-of-requires : tie.Need-left-of-requires
+left-of-requires c κs = search needs
+
+sum-of-requires : tie.Need-sum-of-requires
+sum-of-requires c κs = listed-bits (c .before .before .before .before .args .t1) (c .before .before .before .listed-of .result) (c .before .before .before .listed-of .ensures)
+
+left-of-requires-2 : tie.Need-left-of-requires-2
+left-of-requires-2 c κs = search needs
+
+with-free-requires : tie.Need-with-free-requires
+with-free-requires c κs = search needs
+
+classes-of-requires : tie.Need-classes-of-requires
+classes-of-requires c κs = search needs
+
+array-read-field-of-2 : tie.Need-array-read-field-of-2
+array-read-field-of-2 c = search needs
+
+field-of-requires-2 : tie.Need-field-of-requires-2
+field-of-requires-2 c κs = search needs
+
+returns : tie.Need-returns
+unfolding decode
+returns c =
+    let end = c .before .before .before .before .before .before .before .before .before .args .end in
+    let l = c .before .before .before .before .before .before .before .before .listed-of .ensures in
+    let s = c .before .before .before .before .before .before .before .start-of .ensures in
+    let f = ap (λ (n : ℕ). eqb n 1) (c .before .before .before .before .before .before .field-of .ensures) in
+    let span = c .before .before .before .before .before .left-of .ensures ∙ (λ i. end - s i) in
+    let listed = c .before .before .before .before .sum-of .ensures ∙ ap sum l in
+    let free = c .before .before .before .left-of2 .ensures ∙ (λ i. span i - listed i) in
+    let w = c .before .before .with-free .ensures ∙ (λ i. withFree (f i) (free i) (l i)) in
+    let k = c .before .classes-of .ensures in
+    let t = c .field-of2 .ensures in
+    λ i. record { widths = w i; classes = k i; start = s i; flag = f i; total = t i }
+
+pub decode-spec : {M : Type 1} → statement M
+decode-spec =
+    tie.close
+    (tie.spec
+    listed-of-requires
+    array-read-start-of
+    start-of-requires
+    array-read-field-of
+    field-of-requires
+    left-of-requires
+    sum-of-requires
+    left-of-requires-2
+    with-free-requires
+    classes-of-requires
+    array-read-field-of-2
+    field-of-requires-2
+    returns)

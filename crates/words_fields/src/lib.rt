@@ -1,0 +1,117 @@
+// The fields of head words and of a bucket's words, taken out by shifts and masks.
+
+use words_rules::Bucket;
+use words_rules::Head;
+ghost use mathlib.Core.Path.{_≡_};
+ghost use Prim.Native.Nat.{ℕ, _-_, _≤_, _<_};
+ghost use lib.ListN.{getD};
+ghost use Rattle.laws.specs.Field.{field};
+ghost use Rattle.laws.specs.Sums.{sum};
+ghost use Rattle.words_rules.specs.Limits.{maxListed};
+ghost use Rattle.words_rules.specs.Words.{listedIn, classesIn, headOf};
+ghost use Rattle.words_rules.specs.Decoded.{withFree, decode};
+
+// What stands in bits hi to lo of a word.
+fn field_of(word: u32, hi: u32, lo: u32) -> u32
+    requires { ⌜ (lo ≤ hi) × (hi < 31) ⌝ }
+    ensures { λ r. ⌜ r ≡ field word hi lo ⌝ }
+{
+    (word >> lo) & ((1 << (hi + 1 - lo)) - 1)
+}
+
+// The start in the first of a bucket's words.
+pub fn start_of(first: u32) -> u32
+    ensures { λ r. ⌜ r ≡ field first 29 10 ⌝ }
+{
+    field_of(first, 29, 10)
+}
+
+fn listed_of(packed: [u32; 5]) -> [u32; 7]
+    ensures { λ r. ⌜ r ≡ listedIn packed ⌝ }
+{
+    [
+        field_of(packed[0], 8, 0),
+        field_of(packed[3], 26, 18),
+        field_of(packed[3], 17, 9),
+        field_of(packed[3], 8, 0),
+        field_of(packed[4], 26, 18),
+        field_of(packed[4], 17, 9),
+        field_of(packed[4], 8, 0),
+    ]
+}
+
+fn classes_of(packed: [u32; 5]) -> [u32; 8]
+    ensures { λ r. ⌜ r ≡ classesIn packed ⌝ }
+{
+    [
+        field_of(packed[1], 29, 24),
+        field_of(packed[1], 23, 18),
+        field_of(packed[1], 17, 12),
+        field_of(packed[1], 11, 6),
+        field_of(packed[1], 5, 0),
+        field_of(packed[2], 29, 24),
+        field_of(packed[2], 23, 18),
+        field_of(packed[2], 17, 12),
+    ]
+}
+
+fn sum_of(listed: [u32; 7]) -> u32
+    requires { ⌜ ((k : ℕ) → getD listed k 0 ≤ maxListed) ⌝ }
+    ensures { λ r. ⌜ r ≡ sum listed ⌝ }
+{
+    listed[0] + listed[1] + listed[2] + listed[3] + listed[4] + listed[5] + listed[6]
+}
+
+// The sum of the widths that a bucket's words list.
+pub fn listed_sum(packed: [u32; 5]) -> u32
+    ensures { λ r. ⌜ r ≡ sum (listedIn packed) ⌝ }
+{
+    sum_of(listed_of(packed))
+}
+
+fn with_free(flag: bool, free: u32, l: [u32; 7]) -> [u32; 8]
+    ensures { λ r. ⌜ r ≡ withFree flag free l ⌝ }
+{
+    if flag {
+        [l[0], l[1], l[2], l[3], l[4], l[5], l[6], free]
+    } else {
+        [free, l[0], l[1], l[2], l[3], l[4], l[5], l[6]]
+    }
+}
+
+// What is left of a after b; nothing where b is larger.
+fn left_of(a: u32, b: u32) -> u32
+    ensures { λ r. ⌜ r ≡ a - b ⌝ }
+{
+    if a < b { 0 } else { a - b }
+}
+
+// The bucket of these words that ends at an entry. Where the listed widths exceed its span the free width is 0.
+pub fn decode(packed: [u32; 5], end: u32) -> Bucket
+    ensures { λ r. ⌜ r ≡ decode packed end ⌝ }
+{
+    let listed = listed_of(packed);
+    let start = start_of(packed[0]);
+    let flag = field_of(packed[0], 9, 9) == 1;
+    let free = left_of(left_of(end, start), sum_of(listed));
+    Bucket {
+        widths: with_free(flag, free, listed),
+        classes: classes_of(packed),
+        start,
+        flag,
+        total: field_of(packed[2], 11, 0),
+    }
+}
+
+// What head words hold.
+pub fn head_of(packed: [u32; 4]) -> Head
+    ensures { λ r. ⌜ r ≡ headOf packed ⌝ }
+{
+    Head {
+        entries: packed[0],
+        theta: packed[1],
+        qn: field_of(packed[2], 19, 10),
+        qd: field_of(packed[2], 9, 0),
+        buckets: packed[3],
+    }
+}

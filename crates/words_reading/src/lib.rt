@@ -1,0 +1,115 @@
+// Whether a list of words is a histogram: sentences 7 to 12, each tested over all buckets before the next.
+
+ghost use mathlib.Core.Path.{_≡_};
+ghost use Rattle.words_rules.specs.Reading.{headFault, lengthFault, wordFault, startFault, widthFault, codeFault, readFault};
+
+// 7, from the length and the head words alone. Of the third only bits 19 to 0 may be set.
+fn head_fault(words: &[u32]) -> bool
+    ensures { λ r. ⌜ r ≡ headFault (now (words .entry)) ⌝ }
+{
+    if words.len() < words::HEAD_WORDS {
+        return true;
+    }
+    if words::word_at(words, 2) >> 20 != 0 {
+        return true;
+    }
+    !words_faults::head_good(words::head_at(words))
+}
+
+// 8
+fn length_fault(words: &[u32]) -> bool
+    ensures { λ r. ⌜ r ≡ lengthFault (now (words .entry)) ⌝ }
+{
+    words.len() != words::HEAD_WORDS + words::BUCKET_WORDS * (words::bucket_count(words) as usize)
+}
+
+// 9
+fn word_fault(words: &[u32]) -> bool
+    ensures { λ r. ⌜ r ≡ wordFault (now (words .entry)) ⌝ }
+{
+    let buckets = words::bucket_count(words) as usize;
+    for b in 0..buckets {
+        if words_faults::words_broken(words::packed_at(words, b)) {
+            return true;
+        }
+    }
+    false
+}
+
+// 10
+fn start_fault(words: &[u32]) -> bool
+    ensures { λ r. ⌜ r ≡ startFault (now (words .entry)) ⌝ }
+{
+    let entries = words::entry_count(words);
+    let buckets = words::bucket_count(words) as usize;
+    let mut before = words::start_at(words, 0);
+    if before != 0 {
+        return true;
+    }
+    for b in 0..buckets {
+        let start = words::start_at(words, b);
+        if entries <= start {
+            return true;
+        }
+        if 0 < b && start <= before {
+            return true;
+        }
+        before = start;
+    }
+    false
+}
+
+// 11
+fn width_fault(words: &[u32]) -> bool
+    ensures { λ r. ⌜ r ≡ widthFault (now (words .entry)) ⌝ }
+{
+    let buckets = words::bucket_count(words) as usize;
+    for b in 0..buckets {
+        let listed = words_fields::listed_sum(words::packed_at(words, b));
+        if words_faults::widths_broken(words::span_at(words, b), listed) {
+            return true;
+        }
+    }
+    false
+}
+
+// 12
+fn code_fault(words: &[u32]) -> bool
+    ensures { λ r. ⌜ r ≡ codeFault (now (words .entry)) ⌝ }
+{
+    let buckets = words::bucket_count(words) as usize;
+    for b in 0..buckets {
+        if words_faults::codes_broken(words_fields::decode(
+            words::packed_at(words, b),
+            words::end_at(words, b),
+        )) {
+            return true;
+        }
+    }
+    false
+}
+
+// The number of the first sentence of 7 to 12 that is true of a list, or 0 where it is a histogram.
+pub fn read_fault(words: &[u32]) -> u32
+    ensures { λ r. ⌜ r ≡ readFault (now (words .entry)) ⌝ }
+{
+    if head_fault(words) {
+        return 7;
+    }
+    if length_fault(words) {
+        return 8;
+    }
+    if word_fault(words) {
+        return 9;
+    }
+    if start_fault(words) {
+        return 10;
+    }
+    if width_fault(words) {
+        return 11;
+    }
+    if code_fault(words) {
+        return 12;
+    }
+    0
+}

@@ -1,0 +1,138 @@
+-- What is known of a readable list (specs/Claims.antt): sentences 7 to 12 are false, which says what the files beside this one draw from it.
+-- Assumes nothing.
+use mathlib.Core.Path.{_≡_, refl}
+use mathlib.Core.Bool.{true, false, not}
+use mathlib.Core.List.{List}
+use Prim.Native.Nat.{ℕ, zero, suc, _+_, _^_, _≤_, _<_}
+use native.Mathlib.Omega.{arith}
+use borrow.Author.Tests.{eqb-true, not-false}
+use lib.ListN.{getD}
+use Rattle.laws.specs.Each.{some}
+use Rattle.laws.specs.Refusal.{refusal}
+use Rattle.laws.specs.Sums.{sum}
+use Rattle.laws.proofs.EachLaws.{none-at}
+use Rattle.laws.proofs.RefusalLaws.{numbered, none-true}
+use Rattle.laws.proofs.Tests.{neither-left, neither-right}
+use Rattle.counts_rules.specs.Total.{validCode}
+use Rattle.words_rules.specs.Words.{word, kind, entries, theta, qn, qd, buckets, headOf, packedAt, startIn, listedIn, start, end, span}
+use Rattle.words_rules.specs.Decoded.{classAt, bucketAt}
+use Rattle.words_rules.specs.Reading.{headFault, lengthFault, wordFault, startFault, widthsBroken, widthFault, classBroken, codesBroken, codeFault, readSentences, readFault, Readable}
+use Rattle.words_rules.specs.Claims.{HeadLimits, Holds}
+use Rattle.words_rules.proofs.DecodedLaws.{class-bits, decoded, decoded-sum, decoded-width}
+use Rattle.laws.proofs.BetweenLaws.{within}
+use Rattle.list_rules.proofs.LimitLaws.{good-q}
+use Rattle.words_rules.proofs.HeadLaws.{good-head, head-words}
+use Rattle.words_rules.proofs.StartLaws.{Starts, starts, tiles}
+use Rattle.words_rules.proofs.CodeLaws.{Room, room, ClassGood, class-good, class-used}
+
+pub record NoFault (ws : List ℕ) : Type 0 where
+  pub head : headFault ws ≡ false
+  pub size : lengthFault ws ≡ false
+  pub words : wordFault ws ≡ false
+  pub starts : startFault ws ≡ false
+  pub widths : widthFault ws ≡ false
+  pub codes : codeFault ws ≡ false
+
+pub no-fault : (ws : List ℕ) → Readable ws → NoFault ws
+unfolding numbered
+no-fault ws r =
+    let f = none-true (readSentences ws) refl r in
+    record { head = f .0; size = f .1 .0; words = f .1 .1 .0; starts = f .1 .1 .1 .0; widths = f .1 .1 .1 .1 .0; codes = f .1 .1 .1 .1 .1 .0 }
+
+-- the answer at each sentence that is true where those before it are not
+module _ (ws : List ℕ) where
+  pub fault-7 : headFault ws ≡ true → readFault ws ≡ 7
+  unfolding refusal
+  fault-7 t = simp t
+
+  pub fault-8 : headFault ws ≡ false → lengthFault ws ≡ true → readFault ws ≡ 8
+  unfolding refusal
+  fault-8 f₇ t = simp (f₇, t)
+
+  pub fault-9 : headFault ws ≡ false → lengthFault ws ≡ false → wordFault ws ≡ true → readFault ws ≡ 9
+  unfolding refusal
+  fault-9 f₇ f₈ t = simp (f₇, f₈, t)
+
+  pub fault-10 : headFault ws ≡ false → lengthFault ws ≡ false → wordFault ws ≡ false → startFault ws ≡ true → readFault ws ≡ 10
+  unfolding refusal
+  fault-10 f₇ f₈ f₉ t = simp (f₇, f₈, f₉, t)
+
+  pub fault-11 : headFault ws ≡ false → lengthFault ws ≡ false → wordFault ws ≡ false → startFault ws ≡ false → widthFault ws ≡ true → readFault ws ≡ 11
+  unfolding refusal
+  fault-11 f₇ f₈ f₉ f₁₀ t = simp (f₇, f₈, f₉, f₁₀, t)
+
+  pub fault-12 : headFault ws ≡ false → lengthFault ws ≡ false → wordFault ws ≡ false → startFault ws ≡ false → widthFault ws ≡ false → codeFault ws ≡ true
+      → readFault ws ≡ 12
+  unfolding refusal
+  fault-12 f₇ f₈ f₉ f₁₀ f₁₁ t = simp (f₇, f₈, f₉, f₁₀, f₁₁, t)
+
+  pub readable : NoFault ws → Readable ws
+  unfolding refusal
+  readable f = simp (f .head, f .size, f .words, f .starts, f .widths, f .codes)
+
+pub limits : (ws : List ℕ) → NoFault ws → HeadLimits ws
+unfolding lengthFault
+limits ws f =
+    let words = head-words ws (f .head) in
+    let h = good-head (headOf ws) (words .head) in
+    let d = within 1 65536 (entries ws) (h .entries) in
+    let t = within 1 1048575 (theta ws) (h .theta) in
+    let q = good-q (qn ws) (qd ws) (h .q) in
+    let n = within 1 (entries ws) (buckets ws) (h .buckets) in
+    record {
+      words = eqb-true _ _ (not-false _ (f .size));
+      kinds = kinds (omega arith) (omega arith) (words .q-bits) (omega arith);
+      some-entries = d .least;
+      most-entries = d .most;
+      least-theta = t .least;
+      most-theta = t .most;
+      least-qn = q .num .least;
+      most-qn = q .num .most;
+      least-qd = q .den .least;
+      most-qd = q .den .most;
+      least-q = q .least;
+      some-buckets = n .least;
+      most-buckets = n .most;
+    }
+  where
+    kinds : word ws 0 < 2 ^ 20 → word ws 1 < 2 ^ 20 → word ws 2 < 2 ^ 20 → word ws 3 < 2 ^ 20 → (i : ℕ) → i < 4 → kind (word ws i) ≡ 0
+    kinds a b c e zero h = omega arith
+    kinds a b c e (suc zero) h = omega arith
+    kinds a b c e (suc (suc zero)) h = omega arith
+    kinds a b c e (suc (suc (suc zero))) h = omega arith
+    kinds a b c e (suc (suc (suc (suc i)))) h = absurd (omega arith)
+
+pub starts-in : (ws : List ℕ) → NoFault ws → Starts ws
+starts-in ws f = starts ws (f .starts)
+
+module _ (ws : List ℕ) (f : NoFault ws) (b : ℕ) (h : b < buckets ws) where
+  room-in : Room (span ws b) (sum (listedIn (packedAt ws b)))
+  unfolding widthFault
+  room-in = room _ _ (none-at (buckets ws) (λ b. widthsBroken (span ws b) (sum (listedIn (packedAt ws b)))) (f .widths) b h)
+
+  codes-in : codesBroken (bucketAt ws b) ≡ false
+  unfolding codeFault
+  codes-in = none-at (buckets ws) (λ b. codesBroken (bucketAt ws b)) (f .codes) b h
+
+  fits-in : startIn (packedAt ws b) + sum (listedIn (packedAt ws b)) ≤ end ws b
+  fits-in = let s : start ws b < end ws b = tiles ws (starts-in ws f) .not-empty b h in let r = room-in .inside in omega arith
+
+  class-in : (k : ℕ) → k < 8 → ClassGood (getD (bucketAt ws b .widths) k 0) (classAt (bucketAt ws b) k)
+  unfolding codesBroken
+  class-in k g =
+      let r = bucketAt ws b in
+      class-good _ _ (none-at 8 (λ k. classBroken (getD (r .widths) k 0) (getD (r .classes) k 0)) (neither-left _ (not (validCode (r .total))) codes-in) k g)
+
+  pub holds : Holds ws b
+  unfolding codesBroken
+  holds =
+      let packed = packedAt ws b in
+      let r = bucketAt ws b in
+      record {
+        in-range = decoded packed (end ws b) fits-in;
+        spanned = decoded-sum packed (end ws b) fits-in;
+        widths = decoded-width packed (end ws b) 4095 (omega arith) (room-in .left);
+        empty-class = λ k g. class-in k g .empty;
+        class-used = λ k g. class-used _ _ (class-bits packed (end ws b) k) (class-in k g);
+        total-valid = not-false _ (neither-right (some 8 (λ k. classBroken (getD (r .widths) k 0) (getD (r .classes) k 0))) (not (validCode (r .total))) codes-in);
+      }
