@@ -7,17 +7,14 @@ use Prim.Native.Nat.{ℕ, _<_}
 use native.Mathlib.Omega.{arith}
 use borrow.Author.Tests.{eqb-true, ne-eqb}
 use lib.Dec.{eqb}
-use lib.ListN.{getD}
 use Rattle.laws.specs.Each.{each}
 use Rattle.laws.specs.Sums.{partSum}
 use Rattle.laws.proofs.EachLaws.{each-at}
 use Rattle.laws.proofs.RefusalLaws.{numbered, append-first, append-passed}
 use Rattle.laws.proofs.Tests.{both-left, both-right, holds-other}
-use Rattle.counts_rules.specs.Base.{base}
-use Rattle.counts_rules.specs.Class.{classNumber}
 use Rattle.counts_rules.specs.Total.{totalNumber}
 use Rattle.words_rules.specs.Words.{buckets, start, span}
-use Rattle.words_rules.specs.Decoded.{bucketAt, classAt, bucketletStart}
+use Rattle.words_rules.specs.Decoded.{bucketAt, classAt, bucketletStart, widthAt, numberAt}
 use Rattle.words_rules.specs.Reading.{readSentences, Readable}
 use Rattle.fit.specs.Fit.{bucketletFits}
 use Rattle.list_rules.specs.Frequencies.{listSentences}
@@ -26,8 +23,8 @@ use Rattle.fit.proofs.FitLaws.{Near, near-says}
 
 pub record Fitting (fs ws : List ℕ) : Type 0 where
   pub readable : Readable ws
-  pub bucketlets : (b j : ℕ) → b < buckets ws → j < 8 → 0 < getD (bucketAt ws b .widths) j 0
-      → bucketletFits (qualityOf ws) fs (bucketletStart (bucketAt ws b) j) (getD (bucketAt ws b .widths) j 0) (classNumber base (classAt (bucketAt ws b) j)) ≡ true
+  pub bucketlets : (b j : ℕ) → b < buckets ws → j < 8 → 0 < widthAt (bucketAt ws b) j
+      → bucketletFits (qualityOf ws) fs (bucketletStart (bucketAt ws b) j) (widthAt (bucketAt ws b) j) (numberAt (bucketAt ws b) j) ≡ true
   pub totals : (b : ℕ) → b < buckets ws → Near (qualityOf ws) (partSum (start ws b) (span ws b) fs) (totalNumber (bucketAt ws b .total)) 1
 
 module _ (fs ws : List ℕ) (t : accepted fs ws ≡ true) where
@@ -51,6 +48,6 @@ module _ (fs ws : List ℕ) (t : accepted fs ws ≡ true) where
         readable = read;
         bucketlets = λ b j h l p.
             let good = each-at 8 (bucketletGood (qualityOf ws) fs (bucketAt ws b)) (both-left (each 8 (bucketletGood (qualityOf ws) fs (bucketAt ws b))) _ (bucket-good b h)) j l in
-            holds-other (eqb (getD (bucketAt ws b .widths) j 0) 0) _ good (ne-eqb (getD (bucketAt ws b .widths) j 0) 0 (λ z. omega arith));
+            holds-other (eqb (widthAt (bucketAt ws b) j) 0) _ good (ne-eqb (widthAt (bucketAt ws b) j) 0 (λ z. omega arith));
         totals = λ b h. near-says (qualityOf ws) _ _ 1 (both-right (each 8 (bucketletGood (qualityOf ws) fs (bucketAt ws b))) _ (bucket-good b h));
       }

@@ -6,13 +6,10 @@ use mathlib.Core.List.{List}
 use Prim.Native.Nat.{ℕ, _+_, _-_, _≤_, _<_, min, max}
 use native.Mathlib.Nat.{mul-le-mul-left}
 use native.Mathlib.Omega.{arith}
-use lib.ListN.{getD}
 use Rattle.laws.specs.Sums.{partSum}
-use Rattle.counts_rules.specs.Base.{base}
-use Rattle.counts_rules.specs.Class.{classNumber}
 use Rattle.counts_rules.specs.Total.{totalNumber}
 use Rattle.words_rules.specs.Words.{entries, theta, qn, qd, buckets, start, end, span}
-use Rattle.words_rules.specs.Decoded.{bucketAt, classAt, bucketletStart, bucketletEnd}
+use Rattle.words_rules.specs.Decoded.{bucketAt, classAt, bucketletStart, bucketletEnd, widthAt, numberAt}
 use Rattle.words_rules.proofs.Proved.{histogram}
 use Rattle.words_rules.proofs.EntryLaws.{bucketlet-end}
 use Rattle.fit.specs.Accepted.{qualityOf}
@@ -65,4 +62,4 @@ module _ (fs ws : List ℕ) (ok : Fitting fs ws) (x y : ℕ) (ordered : x ≤ y)
       let r = bucketAt ws b in
       let a = bucketletStart r j in
       subst (λ (e : ℕ). Spanned (qn ws) (qd ws) (theta ws) 1 1 fs x y a e (bucketletPiece x y r j)) (sym (bucketlet-end r j))
-      (bucketlet-spanned (qualityOf ws) fs x y a (getD (r .widths) j 0) (classNumber base (classAt r j)) ordered (ok .bucketlets b j h l))
+      (bucketlet-spanned (qualityOf ws) fs x y a (widthAt r j) (numberAt r j) ordered (ok .bucketlets b j h l))

@@ -7,14 +7,11 @@ use mathlib.Core.Logic.{_⊎_, inl, inr, ⊎-elim}
 use Prim.Native.Nat.{ℕ, suc, _+_, _-_, _≤_, _<_}
 use native.Mathlib.Nat.{le-trans}
 use native.Mathlib.Omega.{arith}
-use lib.ListN.{getD}
 use Rattle.laws.specs.Sums.{partSum}
 use Rattle.laws.proofs.Tests.{is-false, tested}
-use Rattle.counts_rules.specs.Base.{base}
-use Rattle.counts_rules.specs.Class.{classNumber}
 use Rattle.words_rules.specs.declared.Bucket.{Bucket}
 use Rattle.words_rules.specs.Words.{entries, theta, qn, qd, buckets, start, end}
-use Rattle.words_rules.specs.Decoded.{bucketAt, classAt, bucketletStart, bucketletEnd}
+use Rattle.words_rules.specs.Decoded.{bucketAt, classAt, bucketletStart, bucketletEnd, widthAt, numberAt}
 use Rattle.words_rules.proofs.Proved.{histogram}
 use Rattle.words_rules.proofs.EntryLaws.{bucketlet-end}
 use Rattle.fit.specs.Accepted.{qualityOf}
@@ -40,7 +37,7 @@ module _ (x y : ℕ) where
 
   bucketlet-beside : (r : Bucket) (j : ℕ) → Beside (bucketletStart r j) (bucketletEnd r j) → bucketletPiece x y r j ≡ nothing
   bucketlet-beside r j d =
-      piece-beside (bucketletStart r j) (getD (r .widths) j 0) (classNumber base (classAt r j)) (subst (λ (e : ℕ). Beside (bucketletStart r j) e) (bucketlet-end r j) d)
+      piece-beside (bucketletStart r j) (widthAt r j) (numberAt r j) (subst (λ (e : ℕ). Beside (bucketletStart r j) e) (bucketlet-end r j) d)
 
 module _ (fs ws : List ℕ) (ok : Fitting fs ws) (x y : ℕ) (ordered : x ≤ y) where
   not-inside : (b : ℕ) → b < buckets ws → Beside x y (start ws b) (end ws b) → inside x y (start ws b) (end ws b) ≡ false
@@ -122,8 +119,8 @@ module _ (fs ws : List ℕ) (ok : Fitting fs ws) (x y : ℕ) (ordered : x ≤ y)
         part : inside x y (start ws b) (end ws b) ≡ false → Split (qn ws) (qd ws) (theta ws) 0 f (exact ws x y)
         part t =
             let a = bucketletStart r j in
-            let w = getD (r .widths) j 0 in
-            let s = classNumber base (classAt r j) in
+            let w = widthAt r j in
+            let s = numberAt r j in
             let c : countIn fs x y a (a + w) ≡ f = count-all fs x y a (a + w) ordered from (omega (arith, bucketlet-end r j)) in
             let e : exact ws x y ≡ piece x y a w s = exact-one ∙ bucket-parts ws x y b t ∙ bucketlets-one in
             let up : (theta ws < countIn fs x y a (a + w)) ⊎ (theta ws < rounded (piece x y a w s)) =

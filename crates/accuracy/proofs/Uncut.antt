@@ -6,13 +6,10 @@ use mathlib.Core.Logic.{⊎-elim}
 use Prim.Native.Nat.{ℕ, _+_, _-_, _*_, _≤_, _<_}
 use native.Mathlib.Nat.{le-of-mul-le-mul-right}
 use native.Mathlib.Omega.{arith}
-use lib.ListN.{getD}
 use Rattle.laws.specs.Sums.{partSum}
 use Rattle.laws.proofs.Tests.{tested}
-use Rattle.counts_rules.specs.Base.{base}
-use Rattle.counts_rules.specs.Class.{classNumber}
 use Rattle.words_rules.specs.Words.{entries, theta, qn, qd, buckets, start, end}
-use Rattle.words_rules.specs.Decoded.{bucketAt, classAt, bucketletStart}
+use Rattle.words_rules.specs.Decoded.{bucketAt, classAt, bucketletStart, widthAt, numberAt}
 use Rattle.words_rules.proofs.EntryLaws.{bucketlet-end}
 use Rattle.fit.specs.Accepted.{qualityOf}
 use Rattle.estimate_rules.specs.declared.Fraction.{Fraction}
@@ -34,10 +31,10 @@ module _ (fs ws : List ℕ) (ok : Fitting fs ws) (x y : ℕ) (ordered : x ≤ y)
   uncut b j h l =
       let r = bucketAt ws b in
       let a = bucketletStart r j in
-      let w = getD (r .widths) j 0 in
+      let w = widthAt r j in
       let e = bucketlet-end r j in
       let none : (z : ℕ) → CutsNone ws z → cuts z a (a + w) ≡ 0 = λ z c. cuts-none z a (a + w) (λ g. subst (λ (t : ℕ). t ≤ z) e (c b j h l g)) in
-      let p = bucketlet-whole (qualityOf ws) fs x y a w (classNumber base (classAt r j)) ordered (ok .bucketlets b j h l) (omega (arith, none x from, none y to)) in
+      let p = bucketlet-whole (qualityOf ws) fs x y a w (numberAt r j) ordered (ok .bucketlets b j h l) (omega (arith, none x from, none y to)) in
       (subst (λ (t : ℕ). Spanned (qn ws) (qd ws) (theta ws) 0 0 fs x y a t (bucketletPiece x y r j)) (sym e) (split-more (p .0) _ (omega arith)), p .1)
 
   bucket-top : (b : ℕ) → b < buckets ws → bucketPiece ws x y b .top ≡ 0

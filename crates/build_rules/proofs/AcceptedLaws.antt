@@ -16,7 +16,8 @@ use Rattle.laws.proofs.Tests.{both, holds-left, holds-right}
 use Rattle.laws.proofs.EachLaws.{each-all}
 use Rattle.laws.proofs.RefusalLaws.{numbered, append-passed, none-left}
 use Rattle.laws.proofs.RefusalLaws as law
-use Rattle.counts_rules.specs.Base.{base, limit}
+use Rattle.counts_rules.specs.Limit.{limit}
+use Rattle.counts_rules.specs.Form.{base}
 use Rattle.counts_rules.specs.Class.{classNumber}
 use Rattle.counts_rules.specs.Total.{totalCode, totalNumber}
 use Rattle.counts_rules.proofs.TotalLaws.{count-within, number-within}

@@ -13,7 +13,7 @@ use lib.ListN.{length, getD}
 use Rattle.laws.specs.Sums.{sum, prefixSum, partSum}
 use Rattle.laws.proofs.Table.{at}
 use Rattle.laws.proofs.SumsLaws.{getD-le-sum, prefix-suc, prefix-all}
-use Rattle.counts_rules.specs.Base.{base}
+use Rattle.counts_rules.specs.Form.{base}
 use Rattle.counts_rules.specs.Class.{classOf}
 use Rattle.words_rules.specs.Limits.{maxListed, maxWidth}
 use Rattle.list_rules.specs.declared.Quality.{Quality}

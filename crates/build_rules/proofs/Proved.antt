@@ -10,7 +10,7 @@ use Rattle.list_rules.specs.Quality.{quality, qualitySentences, inputSentences}
 use Rattle.build_rules.specs.Claims.{Widths, Built, Building}
 use Rattle.list_rules.proofs.SoundLaws.{sound-of}
 use Rattle.build_rules.proofs.WidthLaws.{one-fits, width-largest}
-use Rattle.build_rules.proofs.ReadBack.{entries-are, theta-is, qn-is, qd-is, buckets-are, bucket-is, readable-words, few}
+use Rattle.build_rules.proofs.ReadBack.{entries-are, theta-is, qn-is, qd-is, buckets-are, bucket-is, readable-words, few, short}
 use Rattle.build_rules.proofs.RuleLaws.{by-rule}
 use Rattle.build_rules.proofs.AcceptedLaws.{accepted-words}
 
@@ -29,6 +29,7 @@ building = record { built = built }
           one-fits = one-fits q fs s;
           readable = readable-words q fs s;
           few = few q fs s;
+          short = short q fs s;
           head-entries = entries-are q fs s;
           head-theta = theta-is q fs s;
           head-qn = qn-is q fs s;

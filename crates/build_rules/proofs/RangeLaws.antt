@@ -13,7 +13,7 @@ use lib.ListN.{length, getD}
 use Rattle.laws.specs.Sums.{sum, partSum}
 use Rattle.laws.proofs.Tests.{true-not-false, holds-other, neither}
 use Rattle.laws.proofs.Table.{at}
-use Rattle.counts_rules.specs.Base.{usedClass}
+use Rattle.counts_rules.specs.Form.{form, usedClass}
 use Rattle.counts_rules.specs.Total.{codeBits, codeShift, validCode}
 use Rattle.counts_rules.proofs.BaseLaws.{class-used, used-says}
 use Rattle.counts_rules.proofs.TotalLaws.{code-valid, valid-says}
@@ -71,7 +71,7 @@ module _ (q : Quality) (fs : List ℕ) (end a : ℕ) where
               ∙ class-used (partSum (placeOf q fs end a k) (getD ws k 0) fs) (count-some q fs sound (placeOf q fs end a k) (getD ws k 0) l (omega (arith, place-next q fs end a k))) (count-small q fs sound (placeOf q fs end a k) (getD ws k 0)),
         )
 
-    class-small : (k : ℕ) → k < 8 → getD (classesFrom fs a ws) k 0 < 2 ^ 6
+    class-small : (k : ℕ) → k < 8 → getD (classesFrom fs a ws) k 0 < 2 ^ form .classBits
     class-small k h =
         ⊎-elim
         (λ (e : 0 ≡ getD ws k 0). omega (arith, class-range k h .0 (sym e)))
@@ -103,8 +103,8 @@ module _ (q : Quality) (fs : List ℕ) (end a : ℕ) where
         ⊎-elim
         (λ (e : 0 ≡ getD ws k 0).
         let z = class-range k h .0 (sym e) in
-        record { not-2 = λ t. omega arith; not-63 = λ t. omega arith; empty = λ _. z; full = λ _. sym e })
+        record { known = λ n. absurd (n z); empty = λ _. z; full = λ _. sym e })
         (λ (l : 0 < getD ws k 0).
-        let u = used-says (getD (classesFrom fs a ws) k 0) (class-range k h .1 l) in
-        record { not-2 = u .2; not-63 = λ t. omega (arith, u .1); empty = λ z. absurd (omega arith); full = λ z. absurd (omega (arith, u .0)) })
+        let u = class-range k h .1 l in
+        record { known = λ _. u; empty = λ z. absurd (omega arith); full = λ z. absurd (omega (arith, used-says (getD (classesFrom fs a ws) k 0) u .0)) })
         (eq-or-lt-of-le (omega arith))

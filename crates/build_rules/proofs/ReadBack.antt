@@ -12,14 +12,13 @@ use borrow.Author.Tests.{eq-eqb}
 use lib.ListN.{length, getD, take, drop}
 use lib.Seq.{getD-at}
 use Rattle.laws.specs.Each.{some}
-use Rattle.laws.specs.Field.{put}
 use Rattle.laws.specs.Sums.{sum}
 use Rattle.laws.proofs.Tests.{neither, not-fails}
 use Rattle.laws.proofs.EachLaws.{some-none}
 use Rattle.counts_rules.specs.Total.{validCode}
 use Rattle.words_rules.specs.declared.Bucket.{Bucket}
 use Rattle.words_rules.specs.Limits.{maxWidth}
-use Rattle.words_rules.specs.Words.{place, entries, theta, qn, qd, buckets, headOf, packedAt, startIn, flagIn, listedIn, start, end, span}
+use Rattle.words_rules.specs.Words.{headWords, bucketWords, place, entries, theta, qn, qd, buckets, headOf, encodeHead, packedAt, startIn, flagIn, listedIn, start, end, span}
 use Rattle.words_rules.specs.Decoded.{withFree, decode, encode, bucketAt}
 use Rattle.words_rules.specs.Reading.{headGood, lengthFault, wordsBroken, wordFault, widthFault, classBroken, codesBroken, codeFault, Readable}
 use Rattle.words_rules.specs.Claims.{InRange}
@@ -34,7 +33,7 @@ use Rattle.words_rules.proofs.ReadingLaws.{readable}
 use Rattle.list_rules.specs.declared.Quality.{Quality}
 use Rattle.list_rules.specs.Private.Sound.{Sound}
 use Rattle.build_rules.specs.Bucket.{bucketWidths, classesFrom, bucketFrom}
-use Rattle.build_rules.specs.Words.{startFrom, stretch, bucketWordsOf, words}
+use Rattle.build_rules.specs.Words.{startFrom, stretch, bucketWordsOf, headWith, words, wordsFor}
 use Rattle.build_rules.proofs.BucketLaws.{sum-some}
 use Rattle.build_rules.proofs.WordsLaws.{words-length}
 use Rattle.build_rules.proofs.StretchLaws.{Laid, laid}
@@ -79,19 +78,19 @@ module _ (q : Quality) (fs : List ℕ) (sound : Sound fs q) where
   all : Laid q fs d sound (omega arith) 0 (stretch q fs d 0)
   all = laid q fs d sound (omega arith) d 0 (omega arith) (omega arith)
 
-  words-are : ws ≡ (d ∷ q .theta ∷ (put (q .qn) 19 10 + put (q .qd) 9 0) ∷ count ∷ []) ++ bucketWordsOf (stretch q fs d 0)
+  words-are : ws ≡ encodeHead (headWith q d count) ++ bucketWordsOf (stretch q fs d 0)
   unfolding words
   words-are = refl
 
-  pub size : length ws ≡ 4 + 5 * count
+  pub size : length ws ≡ headWords + bucketWords * count
   unfolding words
   size = let n = words-length (stretch q fs d 0) in omega arith
 
   pub packed-are : (b : ℕ) → b < count → packedAt ws b ≡ encode (bucketOf b)
   packed-are b h =
       sym (part-packed ws b (omega (arith, size)))
-      ∙ ap (λ (l : List ℕ). take 5 (drop (place b 0) l)) words-are
-      ∙ ap (λ (n : ℕ). take 5 (drop n ((d ∷ q .theta ∷ (put (q .qn) 19 10 + put (q .qd) 9 0) ∷ count ∷ []) ++ bucketWordsOf (stretch q fs d 0)))) {x = place b 0} {y = suc (suc (suc (suc (5 * b))))} (omega arith)
+      ∙ ap (λ (l : List ℕ). take bucketWords (drop (place b 0) l)) words-are
+      ∙ ap (λ (n : ℕ). take bucketWords (drop n (encodeHead (headWith q d count) ++ bucketWordsOf (stretch q fs d 0)))) {x = place b 0} {y = suc (suc (suc (suc (bucketWords * b))))} (omega arith)
       ∙ all .words b h
 
   -- ---- the head
@@ -238,3 +237,6 @@ module _ (q : Quality) (fs : List ℕ) (sound : Sound fs q) where
 
   pub few : 8 * buckets ws ≤ d + 7
   few = omega (arith, all .few, buckets-are)
+
+  pub short : length ws ≤ wordsFor d
+  short = omega (arith, all .few, size)

@@ -10,11 +10,12 @@ use Rattle.laws.specs.Sums.{partSum}
 use Rattle.counts_rules.specs.Total.{totalCode}
 use Rattle.words_rules.specs.declared.Bucket.{Bucket}
 use Rattle.words_rules.specs.Words.{span}
+use Rattle.words_rules.specs.Decoded.{widthAt}
 use Rattle.list_rules.specs.declared.Quality.{Quality}
 use Rattle.list_rules.specs.Private.Sound.{Sound}
 use Rattle.build_rules.specs.Bucket.{firstFree, bucketWidths, bucketFrom}
 use Rattle.build_rules.specs.Words.{stretch, words}
-use Rattle.build_rules.specs.Claims.{Largest, widthAt, AsWide, ByRule}
+use Rattle.build_rules.specs.Claims.{Largest, AsWide, ByRule}
 use Rattle.build_rules.proofs.WidthLaws.{width-largest}
 use Rattle.build_rules.proofs.BucketLaws.{placeOf, widths-length, width-at, class-of-none, class-of-count}
 use Rattle.build_rules.proofs.ReadBack.{startOf, start-is, span-is, bucket-is}

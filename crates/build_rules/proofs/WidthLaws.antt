@@ -16,7 +16,8 @@ use Rattle.laws.proofs.EachLaws.{each-all}
 use Rattle.laws.proofs.SearchLaws as Search
 use Rattle.laws.proofs.SearchLaws.{largest-is}
 use Rattle.laws.proofs.SumsLaws.{part-le, part-cons}
-use Rattle.counts_rules.specs.Base.{base, limit}
+use Rattle.counts_rules.specs.Limit.{limit}
+use Rattle.counts_rules.specs.Form.{base}
 use Rattle.counts_rules.specs.Class.{classOf, classValue}
 use Rattle.counts_rules.proofs.BaseLaws.{class-used, close, count-close}
 use Rattle.list_rules.specs.declared.Quality.{Quality}

@@ -6,7 +6,7 @@ use mathlib.Core.List.{List, [], _∷_}
 use Prim.Native.Nat.{ℕ, _+_, _-_, min}
 use lib.Dec.{ltb, eqb}
 use Rattle.laws.specs.Sums.{sum, partSum}
-use Rattle.counts_rules.specs.Base.{base}
+use Rattle.counts_rules.specs.Form.{base}
 use Rattle.counts_rules.specs.Class.{classOf}
 use Rattle.counts_rules.specs.Total.{totalCode}
 use Rattle.words_rules.specs.declared.Bucket.{Bucket}

@@ -7,18 +7,18 @@ use Prim.Native.Nat.{ℕ, _+_, _-_, _*_, _≤_, _<_, min}
 use lib.ListN.{length, getD}
 use Rattle.laws.specs.Refusal.{refusal}
 use Rattle.laws.specs.Sums.{partSum}
-use Rattle.counts_rules.specs.Base.{base}
+use Rattle.counts_rules.specs.Form.{base}
 use Rattle.counts_rules.specs.Class.{classOf}
 use Rattle.counts_rules.specs.Total.{totalCode}
 use Rattle.words_rules.specs.declared.Bucket.{Bucket}
 use Rattle.words_rules.specs.Words.{entries, theta as thetaIn, qn as qnIn, qd as qdIn, buckets, start, span}
-use Rattle.words_rules.specs.Decoded.{classAt, bucketAt, bucketletStart}
+use Rattle.words_rules.specs.Decoded.{classAt, bucketAt, bucketletStart, widthAt}
 use Rattle.words_rules.specs.Reading.{Readable}
 use Rattle.list_rules.specs.declared.Quality.{Quality}
 use Rattle.fit.specs.Accepted.{accepted}
 use Rattle.build_rules.specs.Width.{fitsAt, width}
 use Rattle.build_rules.specs.Bucket.{firstFree, limitsOf, bucketFrom}
-use Rattle.build_rules.specs.Words.{startFrom, words}
+use Rattle.build_rules.specs.Words.{startFrom, words, wordsFor}
 use Rattle.list_rules.specs.Quality.{quality, inputSentences}
 
 -- it fits with each width 1 to w
@@ -34,10 +34,7 @@ pub record Largest (q : Quality) (fs : List ℕ) (a most w : ℕ) : Type 0 where
 pub record Widths : Type 0 where
   pub width-largest : (q : Quality) (fs : List ℕ) (a most : ℕ) → Largest q fs a most (width q fs a most)
 
--- the width of bucketlet k, 0 to 7, of a decoded bucket, and its limit
-abbrev pub widthAt : Bucket → ℕ → ℕ
-widthAt r k = getD (r .widths) k 0
-
+-- the limit of the width of bucketlet k
 abbrev pub limitAt : Bucket → ℕ → ℕ
 limitAt r k = getD (limitsOf (widthAt r 0)) k 0
 
@@ -64,6 +61,7 @@ pub record Built (fs : List ℕ) (theta qn qd : ℕ) : Type 0 where
   -- the words are a histogram, of at most a bucket for eight entries and one more for what is left
   pub readable : Readable (words (quality theta qn qd) fs)
   pub few : 8 * buckets (words (quality theta qn qd) fs) ≤ length fs + 7
+  pub short : length (words (quality theta qn qd) fs) ≤ wordsFor (length fs)
   -- the head words hold d, theta and q as they were given
   pub head-entries : entries (words (quality theta qn qd) fs) ≡ length fs
   pub head-theta : thetaIn (words (quality theta qn qd) fs) ≡ theta

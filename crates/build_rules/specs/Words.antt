@@ -2,14 +2,16 @@
 -- Assumes nothing.
 use mathlib.Core.Bool.{cond}
 use mathlib.Core.List.{List, [], _∷_, _++_}
-use Prim.Native.Nat.{ℕ, zero, suc, _+_}
+use Prim.Native.Nat.{ℕ, zero, suc, _+_, _*_, _/_}
 use lib.Dec.{ltb}
 use lib.ListN.{length}
-use Rattle.laws.specs.Field.{put}
 use Rattle.laws.specs.Sums.{sum}
+use Rattle.words_rules.specs.declared.Head.{Head}
 use Rattle.words_rules.specs.declared.Bucket.{Bucket}
+use Rattle.words_rules.specs.Words.{headWords, bucketWords, encodeHead}
 use Rattle.words_rules.specs.Decoded.{encode}
 use Rattle.list_rules.specs.declared.Quality.{Quality}
+use Rattle.list_rules.specs.Limits.{maxEntries}
 use Rattle.build_rules.specs.Bucket.{bucketWidths, bucketFrom}
 
 -- the buckets from entry a to the end, at most n of them; no list has more buckets than entries
@@ -32,10 +34,22 @@ unfoldable pub bucketWordsOf : List Bucket → List ℕ
 bucketWordsOf [] = []
 bucketWordsOf (b ∷ bs) = encode b ++ bucketWordsOf bs
 
+-- the head of a histogram of d entries and n buckets
+abbrev pub headWith : Quality → ℕ → ℕ → Head
+headWith q d n = record { entries = d; theta = q .theta; qn = q .qn; qd = q .qd; buckets = n }
+
 -- the words of a histogram with these buckets
 abbrev pub wordsWith : Quality → ℕ → List Bucket → List ℕ
-wordsWith q d bs = d ∷ q .theta ∷ (put (q .qn) 19 10 + put (q .qd) 9 0) ∷ length bs ∷ bucketWordsOf bs
+wordsWith q d bs = encodeHead (headWith q d (length bs)) ++ bucketWordsOf bs
 
 -- the histogram of a list
 unfoldable pub words : Quality → List ℕ → List ℕ
 words q fs = wordsWith q (length fs) (stretch q fs (length fs) 0)
+
+-- how many words the longest histogram of d entries has: each of its buckets but the last holds eight entries or more (claim short)
+abbrev pub wordsFor : ℕ → ℕ
+wordsFor d = headWords + bucketWords * ((d + 7) / 8)
+
+-- and the longest of all
+abbrev pub maxWords : ℕ
+maxWords = wordsFor maxEntries

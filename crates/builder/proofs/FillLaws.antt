@@ -2,43 +2,22 @@
 -- Assumes nothing.
 use mathlib.Core.Path.{_≡_, refl, sym, ap, _∙_}
 use mathlib.Core.List.{List, [], _∷_, _++_, append-assoc, append-nil}
-use Prim.Native.Nat.{ℕ, suc, _+_, _-_, _*_, _%_, _^_, _≤_, _<_}
+use Prim.Native.Nat.{ℕ, suc, _+_, _-_, _*_, _≤_, _<_}
 use native.Mathlib.Nat.{zero-add}
-use native.Mathlib.Numerals.{add-one, add-two, add-three, add-four}
 use native.Mathlib.Omega.{arith}
-use lib.ListN.{length, getD, take, drop, set, length-append, length-take, take-append-drop}
-use lib.Bits.{bitOr, or-shifted}
-use lib.Seq.{take-at, drop-at, drop-drop, drop-cons, take-suc, set-at, sets-eq, append-snoc, length-take-le}
-use Rattle.laws.specs.Field.{put}
+use lib.ListN.{length, take, drop, length-append, length-take, take-append-drop}
+use lib.Seq.{sets, sets-eq, take-at, drop-at, drop-drop}
 use Rattle.laws.specs.Sums.{sum}
-use Rattle.list_rules.specs.Limits.{maxQ}
 use Rattle.words_rules.specs.declared.Bucket.{Bucket}
+use Rattle.words_rules.specs.Words.{headWords, bucketWords, encodeHead}
 use Rattle.words_rules.specs.Decoded.{encode}
 use Rattle.list_rules.specs.declared.Quality.{Quality}
 use Rattle.list_rules.specs.Private.Sound.{Sound}
 use Rattle.build_rules.specs.Bucket.{bucketWidths, bucketFrom}
-use Rattle.build_rules.specs.Words.{bucketsFrom, stretch, bucketWordsOf, words}
+use Rattle.build_rules.specs.Words.{bucketsFrom, stretch, bucketWordsOf, headWith, words, maxWords}
 use Rattle.build_rules.proofs.BucketLaws.{sum-within, sum-eight}
 use Rattle.build_rules.proofs.WordsLaws.{encode-length, words-length, buckets-more, buckets-done}
-use Rattle.builder.specs.Private.Filling.{maxBuckets, maxWords, Bodied, Whole}
-
--- ---- the stores of a bucket's words
-
-pub packed-is : (l : List ℕ) → length l ≡ 5 → l ≡ getD l 0 0 ∷ getD l 1 0 ∷ getD l 2 0 ∷ getD l 3 0 ∷ getD l 4 0 ∷ []
-packed-is [] e = absurd (omega arith)
-packed-is (a ∷ []) e = absurd (omega arith)
-packed-is (a ∷ b ∷ []) e = absurd (omega arith)
-packed-is (a ∷ b ∷ c ∷ []) e = absurd (omega arith)
-packed-is (a ∷ b ∷ c ∷ d ∷ []) e = absurd (omega arith)
-packed-is (a ∷ b ∷ c ∷ d ∷ f ∷ []) e = refl
-packed-is (a ∷ b ∷ c ∷ d ∷ f ∷ g ∷ l) e = absurd (omega arith)
-
-pub stores : (l packed : List ℕ) (i : ℕ) → length packed ≡ 5 → i + 5 ≤ length l
-    → set (set (set (set (set l i (getD packed 0 0)) (i + 1) (getD packed 1 0)) (i + 2) (getD packed 2 0)) (i + 3) (getD packed 3 0)) (i + 4) (getD packed 4 0)
-    ≡ take i l ++ packed ++ drop (i + 5) l
-stores l packed i e h =
-    rw (add-one i, add-two i, add-three i, add-four i)
-    (sets-eq (getD packed 0 0 ∷ getD packed 1 0 ∷ getD packed 2 0 ∷ getD packed 3 0 ∷ getD packed 4 0 ∷ []) l i h ∙ ap (λ (f : List ℕ). take i l ++ f ++ drop (i + 5) l) (sym (packed-is packed e)))
+use Rattle.builder.specs.Private.Filling.{maxBuckets, Bodied, Whole}
 
 -- ---- a bucket's words after those that stand
 
@@ -67,12 +46,12 @@ module _ (fs : List ℕ) (q : Quality) (old : List ℕ) where
     pub ahead : start < length fs → 8 * b ≤ start
     pub few : b ≤ maxBuckets
     pub done : List ℕ
-    pub size : length done ≡ 5 * b
-    pub standing : new ≡ take 4 old ++ done ++ drop (4 + 5 * b) old
+    pub size : length done ≡ bucketWords * b
+    pub standing : new ≡ take headWords old ++ done ++ drop (headWords + bucketWords * b) old
     pub rest : bucketWordsOf (stretch q fs (length fs) 0) ≡ done ++ bucketWordsOf (left b start)
     pub count : length (stretch q fs (length fs) 0) ≡ b + length (left b start)
 
-  pub filling-none : 4 ≤ length old → Filling old 0 0
+  pub filling-none : headWords ≤ length old → Filling old 0 0
   filling-none h =
       record {
         within = omega arith;
@@ -80,7 +59,7 @@ module _ (fs : List ℕ) (q : Quality) (old : List ℕ) where
         few = omega arith;
         done = [];
         size = refl;
-        standing = sym (ap (λ (x : List ℕ). x ++ drop 4 old) (append-nil (take 4 old)) ∙ take-append-drop 4 old);
+        standing = sym (ap (λ (x : List ℕ). x ++ drop headWords old) (append-nil (take headWords old)) ∙ take-append-drop headWords old);
         rest = ap (λ (n : ℕ). bucketWordsOf (bucketsFrom n q fs (length fs) 0)) {x = length fs} {y = length fs - 0} (omega arith);
         count = ap (λ (n : ℕ). length (bucketsFrom n q fs (length fs) 0)) {x = length fs} {y = length fs - 0} (omega arith) ∙ sym (zero-add _);
       }
@@ -91,23 +70,23 @@ module _ (fs : List ℕ) (q : Quality) (old : List ℕ) where
         ap (λ (n : ℕ). bucketsFrom n q fs (length fs) start) {x = length fs - b} {y = suc (length fs - suc b)} (omega (arith, f .ahead more))
         ∙ buckets-more q fs (length fs) (length fs - suc b) start more
 
-    pub room : maxWords ≤ length old → length new ≡ length old → 4 + 5 * b + 5 ≤ length new
+    pub room : maxWords ≤ length old → length new ≡ length old → headWords + bucketWords * b + bucketWords ≤ length new
     room h e = omega (arith, f .ahead more, sound .many)
 
-    pub filling-more : 4 ≤ length old → (o : List ℕ) → o ≡ take (4 + 5 * b) new ++ encode (bucketFrom q fs (length fs) start) ++ drop (4 + 5 * b + 5) new
+    pub filling-more : headWords ≤ length old → (o : List ℕ) → o ≡ take (headWords + bucketWords * b) new ++ encode (bucketFrom q fs (length fs) start) ++ drop (headWords + bucketWords * b + bucketWords) new
         → Filling o (suc b) (start + sum (bucketWidths q fs (length fs) start))
     unfolding bucketWordsOf
     filling-more h o e =
         let r = bucketFrom q fs (length fs) start in
         let next = start + sum (bucketWidths q fs (length fs) start) in
-        let packed : 5 * b + 5 ≡ 5 * suc b = omega arith in
+        let next-words-end : bucketWords * b + bucketWords ≡ bucketWords * suc b = omega arith in
         record {
           within = sum-within q fs (length fs) start (omega arith);
           ahead = λ l. omega (arith, f .ahead more, sum-eight q fs (length fs) start sound (omega arith) l);
           few = omega (arith, f .ahead more, sound .many);
           done = f .done ++ encode r;
           size = length-append (f .done) (encode r) ∙ (let s = f .size in let t = encode-length r in omega arith);
-          standing = e ∙ next-words old new (f .done) (encode r) 4 (5 * b) 5 h (f .size) (encode-length r) (f .standing) ∙ ap (λ (n : ℕ). take 4 old ++ (f .done ++ encode r) ++ drop (4 + n) old) packed;
+          standing = e ∙ next-words old new (f .done) (encode r) headWords (bucketWords * b) bucketWords h (f .size) (encode-length r) (f .standing) ∙ ap (λ (n : ℕ). take headWords old ++ (f .done ++ encode r) ++ drop (headWords + n) old) next-words-end;
           rest = f .rest ∙ ap (λ (rs : List Bucket). f .done ++ bucketWordsOf rs) here ∙ sym (append-assoc (f .done) (encode r) (bucketWordsOf (left (suc b) next)));
           count = omega (arith, f .count, ap length here);
         }
@@ -120,41 +99,26 @@ module _ (fs : List ℕ) (q : Quality) (old : List ℕ) where
       record {
         count = omega (arith, f .count, ap length none);
         few = f .few;
-        body = f .standing ∙ ap (λ (x : List ℕ). take 4 old ++ x ++ drop (4 + 5 * b) old) (sym w);
+        body = f .standing ∙ ap (λ (x : List ℕ). take headWords old ++ x ++ drop (headWords + bucketWords * b) old) (sym w);
       }
 
 -- ---- the head words before the buckets
 
--- q as two fields
-pub quality-word : (qn qd : ℕ) → qn ≤ maxQ → qd ≤ maxQ → bitOr (qn * 1024 % 2 ^ 32) qd ≡ put qn 19 10 + put qd 9 0
-quality-word qn qd h l =
-    let m : qn * 1024 % 2 ^ 32 ≡ qn * 2 ^ 10 = omega arith in
-    ap (λ (x : ℕ). bitOr x qd) m ∙ or-shifted qn 10 qd (omega arith) ∙ (omega arith)
-
-pub whole : (fs : List ℕ) (q : Quality) (old new : List ℕ) (b w n : ℕ) → 4 ≤ length old → length new ≡ length old → w ≡ put (q .qn) 19 10 + put (q .qd) 9 0
-    → n ≡ 4 + 5 * b → Bodied fs q old new b → Whole fs q (set (set (set (set new 0 (length fs)) 1 (q .theta)) 2 w) 3 b) n
+pub whole : (fs : List ℕ) (q : Quality) (old new o : List ℕ) (b n : ℕ) → headWords ≤ length old → length new ≡ length old
+    → o ≡ sets new 0 (encodeHead (headWith q (length fs) b)) → n ≡ headWords + bucketWords * b → Bodied fs q old new b → Whole fs q o n
 unfolding words
-whole fs q old new b w n h e g m r =
+whole fs q old new o b n h e w m r =
     let rs = stretch q fs (length fs) 0 in
     let body = bucketWordsOf rs in
-    let rest = drop (4 + 5 * b) old in
-    let head = length fs ∷ q .theta ∷ w ∷ b ∷ [] in
-    let front : length (take 4 old) ≡ 4 = length-take 4 old ∙ (omega arith) in
-    let tail : drop 4 new ≡ body ++ rest = ap (drop 4) (r .body ∙ append-assoc (take 4 old) body rest) ∙ drop-at (take 4 old) (body ++ rest) 4 front in
-    let all : set (set (set (set new 0 (length fs)) 1 (q .theta)) 2 w) 3 b ≡ head ++ (body ++ rest) = sets-eq head new 0 (omega arith) ∙ ap (λ (x : List ℕ). head ++ x) tail in
-    let same : head ++ body ≡ words q fs = ap (λ (x : ℕ). length fs ∷ q .theta ∷ x ∷ b ∷ body) g ∙ ap (λ (x : ℕ). length fs ∷ q .theta ∷ (put (q .qn) 19 10 + put (q .qd) 9 0) ∷ x ∷ body) (r .count) in
+    let rest = drop (headWords + bucketWords * b) old in
+    let head = encodeHead (headWith q (length fs) b) in
+    let front : length (take headWords old) ≡ headWords = length-take headWords old ∙ (omega arith) in
+    let tail : drop headWords new ≡ body ++ rest = ap (drop headWords) (r .body ∙ append-assoc (take headWords old) body rest) ∙ drop-at (take headWords old) (body ++ rest) headWords front in
+    let all : o ≡ head ++ (body ++ rest) = w ∙ sets-eq head new 0 (omega arith) ∙ ap (λ (x : List ℕ). head ++ x) tail in
+    let same : head ++ body ≡ words q fs = ap (λ (x : ℕ). encodeHead (headWith q (length fs) x) ++ body) (r .count) in
     let size : length (head ++ body) ≡ n = length-append head body ∙ (let s = words-length rs in let c = r .count in omega arith) in
     record {
       count = sym (ap length (sym same) ∙ size);
       few = omega (arith, r .few);
       front = ap (take n) (all ∙ sym (append-assoc head body rest)) ∙ take-at (head ++ body) rest n size ∙ same;
     }
-
--- ---- the copy
-
-pub copy-more : (from old : List ℕ) (i : ℕ) → i < length from → i < length old → set (take i from ++ drop i old) i (getD from i 0) ≡ take (suc i) from ++ drop (suc i) old
-copy-more from old i h l =
-    ap (λ (r : List ℕ). set (take i from ++ r) i (getD from i 0)) (drop-cons old i 0 l)
-    ∙ set-at (take i from) (getD old i 0) (drop (suc i) old) (getD from i 0) i (length-take-le i from (omega arith))
-    ∙ sym (append-snoc (take i from) (getD from i 0) (drop (suc i) old))
-    ∙ ap (λ (r : List ℕ). r ++ drop (suc i) old) (sym (take-suc from i 0 h))

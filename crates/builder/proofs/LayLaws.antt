@@ -10,7 +10,7 @@ use lib.ListN.{length, getD, set}
 use Rattle.laws.specs.Sums.{sum, prefixSum, partSum}
 use Rattle.laws.proofs.Filled.{Filled, filled-none, filled-more, filled-all}
 use Rattle.laws.proofs.SumsLaws.{prefix-suc, prefix-all, part-add}
-use Rattle.counts_rules.specs.Base.{base}
+use Rattle.counts_rules.specs.Form.{base}
 use Rattle.counts_rules.specs.Class.{classOf}
 use Rattle.counts_rules.specs.Total.{totalCode}
 use Rattle.list_rules.specs.declared.Quality.{Quality}

@@ -2,22 +2,27 @@
 
 use super::bucket::bucket_from;
 use list_rules::Quality;
-ghost use mathlib.Core.List.{_++_};
+use words_rules::BUCKET_WORDS;
+use words_rules::HEAD_WORDS;
+use words_rules::Head;
 ghost use mathlib.Core.Path.{_≡_};
 ghost use Prim.Native.Nat.{_+_, _≤_};
-ghost use lib.ListN.{length, take, drop};
+ghost use lib.ListN.{length};
+ghost use lib.Seq.{sets};
 ghost use Rattle.list_rules.specs.Private.Sound.{Sound};
-ghost use Rattle.builder.specs.Private.Filling.{maxWords, Bodied, Whole};
+ghost use Rattle.build_rules.specs.Words.{maxWords};
+ghost use Rattle.builder.specs.Private.Filling.{Bodied, Whole};
 
-fn put_packed(words: &mut [u32], at: usize, packed: [u32; 5])
-    requires { ⌜ at + 5 ≤ length (now words) ⌝ }
-    ensures { λ r. ⌜ now (words .exit) ≡ take at (now (words .entry)) ++ packed ++ drop (at + 5) (now (words .entry)) ⌝ }
+// The words of one list put into another, from a place on.
+pub(crate) fn put_all(part: &[u32], words: &mut [u32], at: usize)
+    requires { ⌜ at + length (now part) ≤ length (now words) ⌝ }
+    ensures { λ r. ⌜ now (words .exit) ≡ sets (now (words .entry)) at (now (part .entry)) ⌝ }
 {
-    words[at] = packed[0];
-    words[at + 1] = packed[1];
-    words[at + 2] = packed[2];
-    words[at + 3] = packed[3];
-    words[at + 4] = packed[4];
+    let mut i: usize = 0;
+    while i < part.len() {
+        words[at + i] = part[i];
+        i += 1;
+    }
 }
 
 // The words of all buckets, after the place of the head words. Answers the number of buckets.
@@ -30,7 +35,8 @@ fn put_buckets(freqs: &[u32], q: Quality, words: &mut [u32]) -> usize
     let mut start: usize = 0;
     while start < d {
         let placed = bucket_from(freqs, q, d, start);
-        put_packed(words, 4 + 5 * b, words_packing::encode(placed.bucket));
+        let packed = words_packing::encode(placed.bucket);
+        put_all(&packed, words, HEAD_WORDS + BUCKET_WORDS * b);
         start = placed.next;
         b += 1;
     }
@@ -43,9 +49,14 @@ pub(crate) fn put_words(freqs: &[u32], q: Quality, words: &mut [u32]) -> usize
     ensures { λ r. ⌜ Whole (now (freqs .entry)) q (now (words .exit)) r ⌝ }
 {
     let b = put_buckets(freqs, q, words);
-    words[0] = freqs.len() as u32;
-    words[1] = q.theta as u32;
-    words[2] = ((q.qn as u32) << 10) | (q.qd as u32);
-    words[3] = b as u32;
-    4 + 5 * b
+    let head = Head {
+        entries: freqs.len() as u32,
+        theta: q.theta as u32,
+        qn: q.qn as u32,
+        qd: q.qd as u32,
+        buckets: b as u32,
+    };
+    let packed = words_packing::encode_head(head);
+    put_all(&packed, words, 0);
+    HEAD_WORDS + BUCKET_WORDS * b
 }

@@ -7,7 +7,7 @@ ghost use mathlib.Core.Path.{_≡_};
 ghost use mathlib.Core.Bool.{cond, _&&_};
 ghost use Prim.Native.Nat.{suc, _-_, _*_, _^_, _≤_, _<_, max};
 ghost use lib.Dec.{ltb};
-ghost use Rattle.counts_rules.specs.Base.{limit};
+ghost use Rattle.counts_rules.specs.Limit.{limit};
 ghost use Rattle.counts_rules.specs.Class.{classValue};
 ghost use Rattle.build_rules.specs.Width.{width};
 ghost use Rattle.builder.specs.Private.Growing.{Growable, Widenable, Bounding, Testable, greater, counted, passes};

@@ -4,12 +4,12 @@ mod bucket;
 mod filling;
 mod growth;
 
+use build_rules::MAX_WORDS;
+use filling::put_all;
 use filling::put_words;
 use list_rules::Quality;
-ghost use mathlib.Core.List.{_++_};
 ghost use mathlib.Core.Path.{_≡_};
-ghost use Prim.Native.Nat.{_≤_};
-ghost use lib.ListN.{length, take, drop};
+ghost use lib.ListN.{length};
 ghost use Rattle.build_rules.specs.Building.{buildReply, written};
 ghost use Rattle.builder.specs.Built.{builtReply, builtOf};
 
@@ -17,18 +17,6 @@ ghost use Rattle.builder.specs.Built.{builtReply, builtOf};
 pub enum Built {
     Words(usize),
     Refused(u32),
-}
-
-// The first n words of one list into another.
-fn copy(words: &[u32], n: usize, out: &mut [u32])
-    requires { ⌜ (n ≤ length (now words)) × (n ≤ length (now out)) ⌝ }
-    ensures { λ r. ⌜ now (out .exit) ≡ take n (now (words .entry)) ++ drop n (now (out .entry)) ⌝ }
-{
-    let mut i: usize = 0;
-    while i < n {
-        out[i] = words[i];
-        i += 1;
-    }
 }
 
 // The histogram of a frequency list, written into the first words that are lent. It is made in an array that holds the longest one, so that its
@@ -47,11 +35,11 @@ pub fn build(freqs: &[u32], theta: u32, qn: u32, qd: u32, out: &mut [u32]) -> Bu
         qn: qn as u64,
         qd: qd as u64,
     };
-    let mut words = [0u32; 40964];
+    let mut words = [0u32; MAX_WORDS];
     let n = put_words(freqs, q, &mut words);
     if out.len() < n {
         return Built::Refused(6);
     }
-    copy(&words, n, out);
+    put_all(&words[..n], out, 0);
     Built::Words(n)
 }

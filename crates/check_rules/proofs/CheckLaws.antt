@@ -9,16 +9,13 @@ use native.Mathlib.Nat.{eq-or-lt-of-le}
 use native.Mathlib.Omega.{arith}
 use borrow.Author.Tests.{eq-eqb, ne-eqb, eqb-true, eqb-false}
 use lib.Dec.{eqb}
-use lib.ListN.{getD}
 use Rattle.laws.specs.Each.{each}
 use Rattle.laws.specs.Sums.{partSum}
 use Rattle.laws.proofs.Tests.{both, both-left, both-right, either, holds-left, holds-right, tested}
 use Rattle.laws.proofs.EachLaws.{each-at, each-all}
-use Rattle.counts_rules.specs.Base.{base}
-use Rattle.counts_rules.specs.Class.{classNumber}
 use Rattle.words_rules.specs.declared.Bucket.{Bucket}
 use Rattle.words_rules.specs.Words.{buckets, start, end}
-use Rattle.words_rules.specs.Decoded.{bucketAt, classAt, bucketletStart}
+use Rattle.words_rules.specs.Decoded.{bucketAt, classAt, bucketletStart, widthAt, numberAt}
 use Rattle.list_rules.specs.declared.Quality.{Quality}
 use Rattle.fit.specs.Fit.{bucketletFits}
 use Rattle.fit.specs.Accepted.{checkFault, qualityOf, bucketletGood, totalGood, bucketGood, accepted}
@@ -35,17 +32,17 @@ use Rattle.check_rules.proofs.RangeLaws.{good-accepted, accepted-good, 
 module _ (q : Quality) (fs : List ℕ) where
   bucketlet-good : (r : Bucket) (k : ℕ) → bucketletAnswer q fs r k ≡ Accepted → bucketletGood q fs r k ≡ true
   bucketlet-good r k e =
-      let w = getD (r .widths) k 0 in
+      let w = widthAt r k in
       ⊎-elim
       (λ (z : 0 ≡ w). holds-left (eqb w 0) _ (eq-eqb w 0 (sym z)))
-      (λ (p : 0 < w). holds-right (eqb w 0) _ (verdict-fits q fs (bucketletStart r k) w (classNumber base (classAt r k)) p e))
+      (λ (p : 0 < w). holds-right (eqb w 0) _ (verdict-fits q fs (bucketletStart r k) w (numberAt r k) p e))
       (eq-or-lt-of-le (omega arith))
 
   pub good-bucketlet : (r : Bucket) (k : ℕ) → bucketletGood q fs r k ≡ true → bucketletAnswer q fs r k ≡ Accepted
   good-bucketlet r k t =
       let a = bucketletStart r k in
-      let w = getD (r .widths) k 0 in
-      let s = classNumber base (classAt r k) in
+      let w = widthAt r k in
+      let s = numberAt r k in
       ⊎-elim
       (λ (z : eqb w 0 ≡ true). empty-verdict q fs a w s (eqb-true w 0 z))
       (λ (g : bucketletFits q fs a w s ≡ true). fits-verdict q fs a w s g)
@@ -94,7 +91,7 @@ module _ (q : Quality) (fs : List ℕ) where
     bucket-unrefused =
         let r = bucketAt ws b in
         next-unrefused (firstFailing (bucketletAnswer q fs r) 8 0) total
-        (first-unrefused (bucketletAnswer q fs r) (λ k. bucketlet-unrefused q fs (bucketletStart r k) (getD (r .widths) k 0) (classNumber base (classAt r k))) 8 0)
+        (first-unrefused (bucketletAnswer q fs r) (λ k. bucketlet-unrefused q fs (bucketletStart r k) (widthAt r k) (numberAt r k)) 8 0)
         (total-unrefused (start ws b) (end ws b) (r .total))
 
 module _ (fs ws : List ℕ) where

@@ -4,13 +4,10 @@ use mathlib.Core.Bool.{Bool, true, false, cond}
 use mathlib.Core.List.{List}
 use Prim.Native.Nat.{ℕ, _+_, _-_, _<_}
 use lib.Dec.{eqb}
-use lib.ListN.{getD}
 use Rattle.laws.specs.Sums.{partSum}
 use Rattle.laws.proofs.Tests.{same-test}
-use Rattle.counts_rules.specs.Base.{base}
-use Rattle.counts_rules.specs.Class.{classNumber}
 use Rattle.words_rules.specs.Words.{start, end, span}
-use Rattle.words_rules.specs.Decoded.{bucketAt, classAt, bucketletStart}
+use Rattle.words_rules.specs.Decoded.{bucketAt, classAt, bucketletStart, widthAt, numberAt}
 use Rattle.fit.specs.Accepted.{qualityOf, totalGood, accepted}
 use Rattle.check_rules.specs.declared.Sort.the-variants.{Bucketlet, Part}
 use Rattle.check_rules.specs.declared.Failing.{Failing}
@@ -35,15 +32,15 @@ sort-number false = refl
 
 range : (fs ws : List ℕ) (b k i j : ℕ) → let r = bucketAt ws b in
     let a = bucketletStart r k in
-    let w = getD (r .widths) k 0 in
-    Reached fs ws b k → k < 8 → FirstRange (qualityOf ws) fs a w (classNumber base (classAt r k)) i j
+    let w = widthAt r k in
+    Reached fs ws b k → k < 8 → FirstRange (qualityOf ws) fs a w (numberAt r k) i j
     → checkReply fs ws ≡ failedAnswer (cond (eqb (j - i) w) 1 2) (a + i) (a + j)
 range fs ws b k i j p h f =
     let q = qualityOf ws in
     let r = bucketAt ws b in
     let a = bucketletStart r k in
-    let w = getD (r .widths) k 0 in
-    let v = first-range q fs a w (classNumber base (classAt r k)) i j f in
+    let w = widthAt r k in
+    let v = first-range q fs a w (numberAt r k) i j f in
     decided fs ws b k _ p (bucketlet-decides q fs ws b k h (λ m l. good-bucketlet q fs r m (p .bucketlets-before m l)) (λ e. not-accepted (sym v ∙ e)) ∙ v)
     ∙ ap (λ (n : ℕ). failedAnswer n (a + i) (a + j)) (sort-number (eqb (j - i) w))
 

@@ -5,13 +5,10 @@ use mathlib.Core.Bool.{cond}
 use mathlib.Core.List.{List}
 use Prim.Native.Nat.{ℕ, _-_}
 use lib.Dec.{eqb}
-use lib.ListN.{getD}
 use Rattle.laws.specs.Sums.{partSum}
-use Rattle.counts_rules.specs.Base.{base}
-use Rattle.counts_rules.specs.Class.{classNumber}
 use Rattle.words_rules.specs.declared.Bucket.{Bucket}
 use Rattle.words_rules.specs.Words.{buckets, start, end}
-use Rattle.words_rules.specs.Decoded.{bucketAt, classAt, bucketletStart}
+use Rattle.words_rules.specs.Decoded.{bucketAt, classAt, bucketletStart, widthAt, numberAt}
 use Rattle.list_rules.specs.declared.Quality.{Quality}
 use Rattle.fit.specs.Accepted.{checkFault, qualityOf, totalGood}
 use Rattle.check_rules.specs.declared.Sort.the-variants.{Bucket as OfBucket}
@@ -22,7 +19,7 @@ use Rattle.check_rules.specs.Failing.{orNext, firstFailing, bucketletVer
 
 -- bucketlet k of a bucket
 abbrev pub bucketletAnswer : Quality → List ℕ → Bucket → ℕ → Verdict
-bucketletAnswer q fs r k = bucketletVerdict q fs (bucketletStart r k) (getD (r .widths) k 0) (classNumber base (classAt r k))
+bucketletAnswer q fs r k = bucketletVerdict q fs (bucketletStart r k) (widthAt r k) (numberAt r k)
 
 -- the total of a bucket, which fails with the bucket's span
 unfoldable pub totalVerdict : Quality → List ℕ → ℕ → ℕ → ℕ → Verdict

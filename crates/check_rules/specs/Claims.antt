@@ -5,12 +5,9 @@ use mathlib.Core.Bool.{true, false, cond}
 use mathlib.Core.List.{List}
 use Prim.Native.Nat.{ℕ, _+_, _-_, _≤_, _<_}
 use lib.Dec.{eqb}
-use lib.ListN.{getD}
 use Rattle.laws.specs.Sums.{partSum}
-use Rattle.counts_rules.specs.Base.{base}
-use Rattle.counts_rules.specs.Class.{classNumber}
 use Rattle.words_rules.specs.Words.{buckets, start, end, span}
-use Rattle.words_rules.specs.Decoded.{bucketAt, classAt, bucketletStart}
+use Rattle.words_rules.specs.Decoded.{bucketAt, classAt, bucketletStart, widthAt, numberAt}
 use Rattle.list_rules.specs.declared.Quality.{Quality}
 use Rattle.fit.specs.Accepted.{checkFault, qualityOf, bucketletGood, totalGood, bucketGood, accepted}
 use Rattle.check_rules.specs.Reply.{refusedAnswer, acceptedAnswer, failedAnswer}
@@ -43,8 +40,8 @@ pub record Checker : Type 0 where
   -- else it answers what fails first
   pub range : (fs ws : List ℕ) (b k i j : ℕ) → let r = bucketAt ws b in
       let a = bucketletStart r k in
-      let w = getD (r .widths) k 0 in
-      Reached fs ws b k → k < 8 → FirstRange (qualityOf ws) fs a w (classNumber base (classAt r k)) i j
+      let w = widthAt r k in
+      Reached fs ws b k → k < 8 → FirstRange (qualityOf ws) fs a w (numberAt r k) i j
       → checkReply fs ws ≡ failedAnswer (cond (eqb (j - i) w) 1 2) (a + i) (a + j)
   pub total : (fs ws : List ℕ) (b : ℕ) → Reached fs ws b 8
       → totalGood (qualityOf ws) (partSum (start ws b) (span ws b) fs) (bucketAt ws b .total) ≡ false

@@ -8,14 +8,11 @@ use native.Mathlib.Nat.{eq-or-lt-of-le, le-of-suc-le-suc}
 use native.Mathlib.Omega.{arith}
 use denote.Enum.Declared.{tagOf}
 use types.Run.{OneOf}
-use lib.ListN.{getD}
 use Rattle.laws.proofs.SumsLaws.{prefix-suc, prefix-all}
-use Rattle.counts_rules.specs.Base.{base}
-use Rattle.counts_rules.specs.Class.{classNumber}
 use Rattle.counts_rules.specs.Total.{validCode}
 use Rattle.words_rules.specs.declared.Bucket.{Bucket}
 use Rattle.words_rules.specs.Words.{start, end}
-use Rattle.words_rules.specs.Decoded.{decode, bucketAt, classAt, bucketletStart}
+use Rattle.words_rules.specs.Decoded.{decode, bucketAt, classAt, bucketletStart, widthAt, numberAt}
 use Rattle.list_rules.specs.declared.Quality.{Quality}
 use Rattle.fit.specs.Accepted.{checkFault}
 use Rattle.check_rules.specs.declared.Verdict.{Verdict}
@@ -41,10 +38,10 @@ module _ (q : Quality) (fs : List ℕ) (r : Bucket) where
   none-passed = record { places = omega arith; at-place = omega arith; accepted = λ m h. absurd (omega arith) }
 
   -- the answer in hand
-  pub answer-is : (at k : ℕ) (v : Verdict) → Passed at k → v ≡ bucketletVerdict q fs at (getD (r .widths) k 0) (classNumber base (classAt r k)) → v ≡ bucketletAnswer q fs r k
-  answer-is at k v p e = e ∙ ap (λ (a : ℕ). bucketletVerdict q fs a (getD (r .widths) k 0) (classNumber base (classAt r k))) (p .at-place)
+  pub answer-is : (at k : ℕ) (v : Verdict) → Passed at k → v ≡ bucketletVerdict q fs at (widthAt r k) (numberAt r k) → v ≡ bucketletAnswer q fs r k
+  answer-is at k v p e = e ∙ ap (λ (a : ℕ). bucketletVerdict q fs a (widthAt r k) (numberAt r k)) (p .at-place)
 
-  pub next-passed : (at k : ℕ) → Passed at k → k < 8 → bucketletAnswer q fs r k ≡ Accepted → Passed (at + getD (r .widths) k 0) (suc k)
+  pub next-passed : (at k : ℕ) → Passed at k → k < 8 → bucketletAnswer q fs r k ≡ Accepted → Passed (at + widthAt r k) (suc k)
   next-passed at k p h e =
       record {
         places = h;
@@ -65,10 +62,10 @@ module _ (fs ws : List ℕ) (q : Quality) (b : ℕ) (p : Bucketed fs ws q b) whe
       omega (arith, d .at-place, h .ends, prefix-all 8 (r .widths) (omega (arith, h .eight-widths)))
 
   module _ (r : Bucket) (e : r ≡ bucketAt ws b) where
-    pub searchable : (at k : ℕ) → Passed q fs r at k → k < 8 → Classed fs q at (getD (r .widths) k 0) (classAt r k)
+    pub searchable : (at k : ℕ) → Passed q fs r at k → k < 8 → Classed fs q at (widthAt r k) (classAt r k)
     searchable at k d h =
         rw (d .at-place)
-        (subst (λ (r : Bucket). Classed fs q (bucketletStart r k) (getD (r .widths) k 0) (classAt r k)) (sym e)
+        (subst (λ (r : Bucket). Classed fs q (bucketletStart r k) (widthAt r k) (classAt r k)) (sym e)
         (classed fs ws no-fault b (p .is-bucket) q (p .checkable .sound) k h))
 
     -- the first bucketlet in which something fails is the bucket's answer

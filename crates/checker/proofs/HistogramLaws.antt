@@ -5,12 +5,12 @@ use mathlib.Core.Bool.{not}
 use mathlib.Core.List.{List}
 use Prim.Native.Nat.{ℕ, suc, _+_, _≤_, _<_}
 use native.Mathlib.Omega.{arith}
-use lib.ListN.{length, getD}
+use lib.ListN.{length}
 use Rattle.laws.proofs.RefusalLaws.{numbered, passed, none-left, append-passed}
 use Rattle.laws.proofs.SumsLaws.{prefix-suc, prefix-mono, prefix-all}
 use Rattle.list_rules.specs.Limits.{maxTheta}
 use Rattle.words_rules.specs.Words.{theta, qn, qd, buckets, end}
-use Rattle.words_rules.specs.Decoded.{bucketAt, classAt, bucketletStart}
+use Rattle.words_rules.specs.Decoded.{bucketAt, classAt, bucketletStart, widthAt}
 use Rattle.words_rules.specs.Claims.{Holds}
 use Rattle.words_rules.proofs.Proved.{histogram}
 use Rattle.list_rules.specs.declared.Quality.{Quality}
@@ -43,11 +43,11 @@ module _ (fs ws : List ℕ) (e : checkFault fs ws ≡ 0) where
     end-inside = let m = matching fs ws e in let i = histogram .tiles ws (m .readable) .within b h in omega (arith, m .same-length)
 
     -- and so do its bucketlets
-    bucketlet-inside : (k : ℕ) → k < 8 → bucketletStart (bucketAt ws b) k + getD (bucketAt ws b .widths) k 0 ≤ length fs
+    bucketlet-inside : (k : ℕ) → k < 8 → bucketletStart (bucketAt ws b) k + widthAt (bucketAt ws b) k ≤ length fs
     bucketlet-inside k g =
         let r = bucketAt ws b in
         let n = held .in-range .eight-widths in
         omega (arith, prefix-suc k (r .widths), prefix-mono (suc k) 8 (r .widths) g, prefix-all 8 (r .widths) (omega arith), held .in-range .ends, end-inside)
 
-    pub classed : (q : Quality) → Sound fs q → (k : ℕ) → k < 8 → Classed fs q (bucketletStart (bucketAt ws b) k) (getD (bucketAt ws b .widths) k 0) (classAt (bucketAt ws b) k)
+    pub classed : (q : Quality) → Sound fs q → (k : ℕ) → k < 8 → Classed fs q (bucketletStart (bucketAt ws b) k) (widthAt (bucketAt ws b) k) (classAt (bucketAt ws b) k)
     classed q s k g = record { sound = s; inside = bucketlet-inside k g; narrow = held .widths k; used = held .class-used k g }

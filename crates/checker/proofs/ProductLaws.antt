@@ -2,7 +2,7 @@
 -- Assumes nothing.
 use Prim.Native.Nat.{ℕ, _*_, _^_, _≤_}
 use native.Mathlib.Nat.{mul-le-mul}
-use Rattle.counts_rules.specs.Base.{limit}
+use Rattle.counts_rules.specs.Limit.{limit}
 use Rattle.list_rules.specs.Limits.{maxTheta, maxQ}
 use Rattle.words_rules.specs.Limits.{maxWidth}
 use Rattle.list_rules.specs.declared.Quality.{Quality}

@@ -3,7 +3,8 @@
 use mathlib.Core.Path.{_≡_, ap, _∙_}
 use mathlib.Core.Bool.{Bool, true, cond}
 use Prim.Native.Nat.{ℕ, _≤_}
-use Rattle.counts_rules.specs.Base.{base, limit, countable, usedClass}
+use Rattle.counts_rules.specs.Limit.{limit, countable}
+use Rattle.counts_rules.specs.Form.{base, usedClass}
 use Rattle.counts_rules.specs.Class.{classOf, classNumber}
 use Rattle.counts_rules.specs.Total.{totalCode, totalNumber, validCode}
 use Rattle.laws.specs.Reply.{Reply, answered, refused}

@@ -16,7 +16,8 @@ use Rattle.laws.specs.Reply.{answered, refused, caseOf}
 use Rattle.laws.proofs.EachLaws.{each-at}
 use Rattle.laws.proofs.ReplyLaws.{answered-case, refused-case}
 use Rattle.laws.proofs.Tests.{true-not-false, both, both-left, both-right, is-false, same-test}
-use Rattle.counts_rules.specs.Base.{base, limit, countable, usedClass}
+use Rattle.counts_rules.specs.Limit.{limit, countable}
+use Rattle.counts_rules.specs.Form.{base, usedClass}
 use Rattle.counts_rules.specs.Class.{classOf, classStart, classNumber}
 use Rattle.counts_rules.specs.Total.{shift, bits, totalCode, middle, totalNumber, codeBits, codeShift, validFields, validCode}
 use Rattle.counts_rules.proofs.ClassLaws.{Reached, class-eq, start-is, reached-up, reached-down}

@@ -3,7 +3,8 @@
 use mathlib.Core.Bool.{cond}
 use Prim.Native.Nat.{ℕ}
 use Rattle.laws.specs.Reply.{Reply, answered, refused, caseOf}
-use Rattle.counts_rules.specs.Base.{base, countable, usedClass}
+use Rattle.counts_rules.specs.Limit.{countable}
+use Rattle.counts_rules.specs.Form.{base, usedClass}
 use Rattle.counts_rules.specs.Class.{classOf, classNumber}
 use Rattle.counts_rules.specs.Total.{totalCode, totalNumber, validCode}
 use Rattle.counts.specs.declared.Coded.{Coded}

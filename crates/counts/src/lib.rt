@@ -4,7 +4,8 @@ ghost use mathlib.Core.Path.{_≡_};
 ghost use mathlib.Core.Bool.{cond};
 ghost use Prim.Native.Nat.{_≤_, _<_};
 ghost use lib.Dec.{leb, eqb};
-ghost use Rattle.counts_rules.specs.Base.{base, limit};
+ghost use Rattle.counts_rules.specs.Limit.{limit};
+ghost use Rattle.counts_rules.specs.Form.{base, usedClass};
 ghost use Rattle.counts_rules.specs.Class.{classOf};
 ghost use Rattle.counts_rules.specs.Total.{shift, validFields, validCode};
 ghost use Rattle.counts_tables.specs.Entries.{startOf};
@@ -60,18 +61,25 @@ pub fn class_of(count: u32) -> Coded
     Coded::Code(class_search(count))
 }
 
+// Whether counts have a class.
+pub fn is_class(class: u32) -> bool
+    ensures { λ r. ⌜ r ≡ usedClass class ⌝ }
+{
+    if class == 0 {
+        return false;
+    }
+    if class == 2 {
+        return false;
+    }
+    class < 63
+}
+
 // The number that a class stands for, or 17.
 pub fn number_of_class(class: u32) -> Meaning
     ensures { λ r. ⌜ meaningReply r ≡ classMeaning class ⌝ }
     ensures { λ r. ⌜ r ≡ meaningOf (classMeaning class) ⌝ }
 {
-    if class == 0 {
-        return Meaning::Refused;
-    }
-    if class == 2 {
-        return Meaning::Refused;
-    }
-    if 63 <= class {
+    if !is_class(class) {
         return Meaning::Refused;
     }
     Meaning::Number(counts_tables::class_number(class))

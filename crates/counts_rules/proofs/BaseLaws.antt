@@ -12,7 +12,8 @@ use lib.ListN.{getD}
 use Rattle.laws.proofs.Tests.{both, both-left, both-right, holds-other, not-holds, not-fails}
 use Rattle.laws.proofs.SearchLaws.{root-of, root-unique}
 use Rattle.laws.proofs.Table.{at}
-use Rattle.counts_rules.specs.Base.{base, limit, usedClass}
+use Rattle.counts_rules.specs.Limit.{limit}
+use Rattle.counts_rules.specs.Form.{base, usedClass}
 use Rattle.counts_rules.specs.Class.{Class, reaches, inClass, classOf, classStart, classNumber}
 use Rattle.counts_rules.specs.Total.{middle}
 use Rattle.counts_rules.specs.Private.Tables.{starts, numbers, middles}

@@ -12,7 +12,7 @@ use lib.Pow.{pow-add}
 use Rattle.laws.specs.Search.{first, Root}
 use Rattle.laws.proofs.Tests.{true-not-false, both, both-left, both-right, not-holds}
 use Rattle.laws.proofs.SearchLaws.{first-is, root-is, root-mono}
-use Rattle.counts_rules.specs.Base.{Base}
+use Rattle.counts_rules.specs.Form.{Base}
 use Rattle.counts_rules.specs.Class.{Class, reaches, inClass, classOf, classStart, classNumber}
 
 -- v is at least base^k

@@ -3,7 +3,7 @@ use mathlib.Core.Path.{refl}
 use native.Mathlib.Omega.{arith}
 use lib.Dec.{lit≤}
 use Rattle.laws.specs.Search.{first, largest, root}
-use Rattle.counts_rules.specs.Base.{base}
+use Rattle.counts_rules.specs.Form.{base}
 use Rattle.counts_rules.specs.Class.{classOf, classNumber}
 use Rattle.counts_rules.specs.Claims.{Classes, Totals}
 use Rattle.counts_rules.proofs.ClassLaws.{class-is, class-eq, class-mono, start-is, start-least, start-le, number-is, number-mono}

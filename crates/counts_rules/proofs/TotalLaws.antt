@@ -13,7 +13,7 @@ use lib.Dec.{leb, ltb, eqb, lit<}
 use lib.Pow.{pow-pos, pow-mono, pow-add}
 use Rattle.laws.proofs.Tests.{both, both-left, both-right, holds-left, holds-right, either}
 use Rattle.laws.proofs.SearchLaws.{first-is, largest-is}
-use Rattle.counts_rules.specs.Base.{limit}
+use Rattle.counts_rules.specs.Limit.{limit}
 use Rattle.counts_rules.specs.Claims.{HighestBit}
 use Rattle.counts_rules.specs.Total.{highestBit, shift, bits, totalCode, codeBits, codeShift, middle, totalNumber, validFields, validCode}
 

@@ -4,7 +4,8 @@ use mathlib.Core.Path.{_≡_}
 use mathlib.Core.Bool.{true}
 use Prim.Native.Nat.{ℕ, _+_, _-_, _*_, _^_, _≤_, _<_}
 use Rattle.laws.specs.Search.{Root}
-use Rattle.counts_rules.specs.Base.{base, limit, usedClass}
+use Rattle.counts_rules.specs.Limit.{limit}
+use Rattle.counts_rules.specs.Form.{base, usedClass}
 use Rattle.counts_rules.specs.Class.{Class, classOf, classStart, classNumber, classValue}
 use Rattle.counts_rules.specs.Total.{highestBit, totalCode, totalNumber, middle, validCode}
 

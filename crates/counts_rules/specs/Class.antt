@@ -4,7 +4,7 @@ use mathlib.Core.Bool.{Bool, not, _&&_}
 use Prim.Native.Nat.{ℕ, zero, suc, _-_, _*_, _^_, _≤_, _<_}
 use lib.Dec.{leb}
 use Rattle.laws.specs.Search.{first, root}
-use Rattle.counts_rules.specs.Base.{Base, base}
+use Rattle.counts_rules.specs.Form.{Base, base}
 
 -- base^k <= v
 abbrev pub reaches : Base → ℕ → ℕ → Bool

@@ -1,4 +1,5 @@
-pub mod Base
+pub mod Limit
+pub mod Form
 pub mod Class
 pub mod Total
 pub mod Worked

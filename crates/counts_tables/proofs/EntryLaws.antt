@@ -9,7 +9,7 @@ use lib.Dec.{leb, ltb, eqb}
 use lib.ListN.{getD, List·getD-eq-default}
 use Rattle.laws.proofs.Tests.{both, both-left, both-right, holds-other, true-not-false}
 use Rattle.laws.proofs.Table.{at}
-use Rattle.counts_rules.specs.Base.{base, usedClass}
+use Rattle.counts_rules.specs.Form.{base, usedClass}
 use Rattle.counts_rules.specs.Class.{classStart, classNumber}
 use Rattle.counts_rules.specs.Total.{middle}
 use Rattle.counts_rules.specs.Private.Tables.{starts, numbers, middles}

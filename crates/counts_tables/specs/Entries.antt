@@ -3,13 +3,13 @@
 use mathlib.Core.Bool.{cond, _&&_}
 use Prim.Native.Nat.{ℕ}
 use lib.Dec.{leb}
-use Rattle.counts_rules.specs.Base.{base, classEnd, usedClass}
+use Rattle.counts_rules.specs.Form.{form, base, usedClass}
 use Rattle.counts_rules.specs.Class.{classStart, classNumber}
 use Rattle.counts_rules.specs.Total.{middle}
 
 -- the smallest count of a class; the class that begins above the limit has one too
 unfoldable pub startOf : ℕ → ℕ
-startOf c = cond (leb 1 c && leb c classEnd) (classStart base c) 0
+startOf c = cond (leb 1 c && leb c (form .classEnd)) (classStart base c) 0
 
 unfoldable pub numberOf : ℕ → ℕ
 numberOf c = cond (usedClass c) (classNumber base c) 0

@@ -4,14 +4,11 @@ use mathlib.Core.List.{List}
 use Prim.Native.Nat.{ℕ, _+_, _*_, _^_, _≤_, _<_}
 use native.Mathlib.Nat.{mul-le-mul-right, le-trans, pow-le-pow-right}
 use native.Mathlib.Omega.{arith}
-use lib.ListN.{getD}
 use Rattle.laws.specs.Reply.{answered}
 use Rattle.laws.proofs.Tests.{is-false}
-use Rattle.counts_rules.specs.Base.{base}
-use Rattle.counts_rules.specs.Class.{classNumber}
 use Rattle.words_rules.specs.Limits.{maxWidth}
 use Rattle.words_rules.specs.Words.{entries, buckets, start, end}
-use Rattle.words_rules.specs.Decoded.{bucketAt, classAt, bucketletStart}
+use Rattle.words_rules.specs.Decoded.{bucketAt, classAt, bucketletStart, widthAt, numberAt}
 use Rattle.words_rules.specs.Reading.{Readable}
 use Rattle.words_rules.proofs.Proved.{histogram}
 use Rattle.estimate_rules.specs.declared.Fraction.{Fraction}
@@ -68,7 +65,7 @@ module _ (ws : List ℕ) (readable : Readable ws) (x : ℕ) where
       let out = is-false (inside x x (start ws b) (end ws b))
       (λ t. omega (arith, inside-says x x (start ws b) (end ws b) t)) in
       bucket-parts ws x x b out
-      ∙ sum-none 8 (bucketletPiece x x r) (λ j l. piece-none x x (bucketletStart r j) (getD (r .widths) j 0) (classNumber base (classAt r j)) (omega arith))
+      ∙ sum-none 8 (bucketletPiece x x r) (λ j l. piece-none x x (bucketletStart r j) (widthAt r j) (numberAt r j) (omega arith))
 
   pub none : estimate ws x x ≡ 0
   unfolding exact estimate rounded

@@ -7,15 +7,14 @@ use mathlib.Core.Logic.{⊎-elim}
 use Prim.Native.Nat.{ℕ, _+_, _-_, _*_, _^_, _≤_, _<_}
 use native.Mathlib.Nat.{mul-le-mul, mul-le-mul-right, mul-pos, le-of-lt, le-trans, eq-zero-or-pos, one-le-pow, pow-le-pow-right}
 use native.Mathlib.Omega.{arith}
-use lib.ListN.{getD}
 use lib.Pow.{pow-add}
 use Rattle.laws.proofs.Tests.{tested}
-use Rattle.counts_rules.specs.Base.{base}
+use Rattle.counts_rules.specs.Form.{base}
 use Rattle.counts_rules.specs.Class.{classNumber}
 use Rattle.counts_rules.specs.Total.{totalNumber}
 use Rattle.words_rules.specs.Limits.{maxWidth}
 use Rattle.words_rules.specs.Words.{buckets, start, end}
-use Rattle.words_rules.specs.Decoded.{bucketAt, classAt, bucketletStart, bucketletEnd}
+use Rattle.words_rules.specs.Decoded.{bucketAt, classAt, bucketletStart, bucketletEnd, widthAt, numberAt}
 use Rattle.words_rules.specs.Reading.{Readable}
 use Rattle.words_rules.proofs.Proved.{histogram}
 use Rattle.words_rules.proofs.EntryLaws.{bucketlet-end}
@@ -87,21 +86,21 @@ module _ (x y : ℕ) where
       met = overlap x y a (a + w)
 
 module _ (ws : List ℕ) (readable : Readable ws) (x y b : ℕ) (is : b < buckets ws) where
-  pub class-small : (j : ℕ) → j < 8 → classNumber base (classAt (bucketAt ws b) j) ≤ 2 ^ 31
+  pub class-small : (j : ℕ) → j < 8 → numberAt (bucketAt ws b) j ≤ 2 ^ 31
   unfolding classNumber
   class-small j l =
       let holds = histogram .holds ws readable b is in
       ⊎-elim
-      (λ (z : getD (bucketAt ws b .widths) j 0 ≡ 0). omega (arith, ap (classNumber base) (holds .empty-class j l z)))
-      (λ (p : 0 < getD (bucketAt ws b .widths) j 0). le-of-lt (classes .number-small (classAt (bucketAt ws b) j) (holds .class-used j l p)))
-      (eq-zero-or-pos (getD (bucketAt ws b .widths) j 0))
+      (λ (z : widthAt (bucketAt ws b) j ≡ 0). omega (arith, ap (classNumber base) (holds .empty-class j l z)))
+      (λ (p : 0 < widthAt (bucketAt ws b) j). le-of-lt (classes .number-small (classAt (bucketAt ws b) j) (holds .class-used j l p)))
+      (eq-zero-or-pos (widthAt (bucketAt ws b) j))
 
   pub bucketlet-sized : (j : ℕ) → j < 8 → Sized x y (bucketletStart (bucketAt ws b) j) (bucketletEnd (bucketAt ws b) j) (bucketletPiece x y (bucketAt ws b) j)
   bucketlet-sized j l =
       let r = bucketAt ws b in
       let holds = histogram .holds ws readable b is in
       subst (λ (e : ℕ). Sized x y (bucketletStart r j) e (bucketletPiece x y r j)) (sym (bucketlet-end r j))
-      (sized-piece x y (bucketletStart r j) (getD (r .widths) j 0) (classNumber base (classAt r j)) (holds .widths j) (class-small j l))
+      (sized-piece x y (bucketletStart r j) (widthAt r j) (numberAt r j) (holds .widths j) (class-small j l))
 
   pub total-sized : Sized x y (start ws b) (end ws b) (number (totalNumber (bucketAt ws b .total)))
   total-sized =

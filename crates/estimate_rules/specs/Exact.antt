@@ -5,13 +5,10 @@ use mathlib.Core.Bool.{Bool, cond, _&&_}
 use mathlib.Core.List.{List}
 use Prim.Native.Nat.{ℕ, _+_, _-_, _*_, min, max}
 use lib.Dec.{leb, eqb}
-use lib.ListN.{getD}
-use Rattle.counts_rules.specs.Base.{base}
-use Rattle.counts_rules.specs.Class.{classNumber}
 use Rattle.counts_rules.specs.Total.{totalNumber}
 use Rattle.words_rules.specs.declared.Bucket.{Bucket}
 use Rattle.words_rules.specs.Words.{buckets, start, end}
-use Rattle.words_rules.specs.Decoded.{bucketAt, classAt, bucketletStart}
+use Rattle.words_rules.specs.Decoded.{bucketAt, classAt, bucketletStart, widthAt, numberAt}
 use Rattle.estimate_rules.specs.declared.Fraction.{Fraction}
 use Rattle.estimate_rules.specs.Fraction.{number, nothing, quotient, sumOf}
 
@@ -31,7 +28,7 @@ piece x y a w s =
 
 -- bucketlet k of a bucket
 abbrev pub bucketletPiece : ℕ → ℕ → Bucket → ℕ → Fraction
-bucketletPiece x y r k = piece x y (bucketletStart r k) (getD (r .widths) k 0) (classNumber base (classAt r k))
+bucketletPiece x y r k = piece x y (bucketletStart r k) (widthAt r k) (numberAt r k)
 
 -- bucket b: its total if it lies wholly inside, otherwise its bucketlets
 unfoldable pub bucketPiece : List ℕ → ℕ → ℕ → ℕ → Fraction

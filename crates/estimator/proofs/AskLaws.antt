@@ -7,7 +7,7 @@ use Prim.Native.Nat.{ℕ, _+_, _*_, _^_, _≤_}
 use native.Mathlib.Nat.{mul-le-mul-right, le-trans, pow-le-pow-right}
 use native.Mathlib.Omega.{arith}
 use Rattle.laws.specs.Reply.{Reply}
-use Rattle.counts_rules.specs.Base.{base, usedClass}
+use Rattle.counts_rules.specs.Form.{base, usedClass}
 use Rattle.counts_rules.specs.Class.{classNumber}
 use Rattle.counts_rules.specs.Total.{totalNumber, validCode}
 use Rattle.counts.specs.Reply.{classMeaning, totalMeaning}

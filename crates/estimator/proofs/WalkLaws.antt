@@ -9,14 +9,11 @@ use native.Mathlib.Nat.{eq-zero-or-pos, le-trans}
 use native.Mathlib.Omega.{arith}
 use borrow.Author.Tests.{leb-true}
 use lib.Dec.{leb}
-use lib.ListN.{getD}
 use Rattle.laws.proofs.Tests.{both-left, both-right, is-false}
-use Rattle.counts_rules.specs.Base.{base}
-use Rattle.counts_rules.specs.Class.{classNumber}
 use Rattle.counts_rules.specs.Total.{totalNumber, validCode}
 use Rattle.words_rules.specs.declared.Bucket.{Bucket}
 use Rattle.words_rules.specs.Words.{buckets, start, end}
-use Rattle.words_rules.specs.Decoded.{bucketAt, classAt, bucketletStart}
+use Rattle.words_rules.specs.Decoded.{bucketAt, classAt, bucketletStart, widthAt, numberAt}
 use Rattle.words_rules.specs.Reading.{Readable}
 use Rattle.words_rules.proofs.Proved.{histogram}
 use Rattle.words_rules.proofs.EntryLaws.{bucketlet-end}
@@ -43,18 +40,18 @@ module _ (r : Bucket) (x y : ℕ) where
   walk-start a e = record { places = omega arith; at = e; summed = refl }
 
   module _ (sum : Fraction) (a k : ℕ) (walked : Walked r x y sum a k) (l : k < 8) where
-    next-at : a + getD (r .widths) k 0 ≡ bucketletStart r (suc k)
+    next-at : a + widthAt r k ≡ bucketletStart r (suc k)
     next-at = omega (arith, walked .at, bucketlet-end r k)
 
-    next-sum : plus sum (piece x y a (getD (r .widths) k 0) (classNumber base (classAt r k))) ≡ sumOf (suc k) (bucketletPiece x y r)
+    next-sum : plus sum (piece x y a (widthAt r k) (numberAt r k)) ≡ sumOf (suc k) (bucketletPiece x y r)
     unfolding sumOf
     next-sum =
         let e = walked .summed in
         let at = walked .at in
-        λ i. plus (e i) (piece x y (at i) (getD (r .widths) k 0) (classNumber base (classAt r k)))
+        λ i. plus (e i) (piece x y (at i) (widthAt r k) (numberAt r k))
 
-    pub walk-step : (t : Fraction) → t ≡ plus sum (piece x y a (getD (r .widths) k 0) (classNumber base (classAt r k)))
-        → Walked r x y t (a + getD (r .widths) k 0) (suc k)
+    pub walk-step : (t : Fraction) → t ≡ plus sum (piece x y a (widthAt r k) (numberAt r k))
+        → Walked r x y t (a + widthAt r k) (suc k)
     walk-step t e = record { places = omega arith; at = next-at; summed = e ∙ next-sum }
 
 module _ (ws : List ℕ) (readable : Readable ws) (x y : ℕ) where
@@ -86,22 +83,22 @@ module _ (ws : List ℕ) (readable : Readable ws) (x y : ℕ) where
           let holds = histogram .holds ws readable b h in
           of-bucket (λ (r : Bucket). ClassIn (classAt r k))
           (⊎-elim
-          (λ (z : getD (bucketAt ws b .widths) k 0 ≡ 0). inl (holds .empty-class k l z))
-          (λ (p : 0 < getD (bucketAt ws b .widths) k 0). inr (holds .class-used k l p))
-          (eq-zero-or-pos (getD (bucketAt ws b .widths) k 0)))
+          (λ (z : widthAt (bucketAt ws b) k ≡ 0). inl (holds .empty-class k l z))
+          (λ (p : 0 < widthAt (bucketAt ws b) k). inr (holds .class-used k l p))
+          (eq-zero-or-pos (widthAt (bucketAt ws b) k)))
 
-      pub class-limit : (k : ℕ) → k < 8 → classNumber base (classAt r k) ≤ 2 ^ 31
-      class-limit k l = of-bucket (λ (r : Bucket). classNumber base (classAt r k) ≤ 2 ^ 31) (class-small ws readable x y b h k l)
+      pub class-limit : (k : ℕ) → k < 8 → numberAt r k ≤ 2 ^ 31
+      class-limit k l = of-bucket (λ (r : Bucket). numberAt r k ≤ 2 ^ 31) (class-small ws readable x y b h k l)
 
       pub total-valid : validCode (r .total) ≡ true
       total-valid = of-bucket (λ (r : Bucket). validCode (r .total) ≡ true) (histogram .holds ws readable b h .total-valid)
 
-      pub walk-within : (sum : Fraction) (a k : ℕ) → Walked r x y sum a k → k < 8 → a + getD (r .widths) k 0 ≤ 65536
+      pub walk-within : (sum : Fraction) (a k : ℕ) → Walked r x y sum a k → k < 8 → a + widthAt r k ≤ 65536
       walk-within sum a k w l =
           omega (arith, next-at r x y sum a k w l, end-within, of-bucket (λ (r : Bucket). bucketletStart r (suc k) ≤ end ws b) (bucketlet-within (suc k) (omega arith)))
 
       pub walk-small : (sum : Fraction) (a k : ℕ) → Walked r x y sum a k → k < 8
-          → (t : Fraction) → t ≡ piece x y a (getD (r .widths) k 0) (classNumber base (classAt r k)) → Small (plus sum t)
+          → (t : Fraction) → t ≡ piece x y a (widthAt r k) (numberAt r k) → Small (plus sum t)
       walk-small sum a k w l t p =
           subst (λ (t : Fraction). Small (plus sum t)) (sym p)
           (subst Small (sym (next-sum r x y sum a k w l)) (of-bucket (λ (r : Bucket). Small (sumOf (suc k) (bucketletPiece x y r))) (sums-small (suc k) (omega arith))))
@@ -124,7 +121,7 @@ module _ (ws : List ℕ) (readable : Readable ws) (x y : ℕ) where
         (bucket-parts ws x y b
         (is-false _ (λ t. omega (arith, leb-true x (start ws b) (both-left (leb x (start ws b)) _ t), leb-true (end ws b) y (both-right (leb x (start ws b)) _ t), histogram .tiles ws readable .not-empty b h)))
         ∙ sum-none 8 (bucketletPiece x y r) (λ k l.
-        piece-none x y (bucketletStart r k) (getD (r .widths) k 0) (classNumber base (classAt r k))
+        piece-none x y (bucketletStart r k) (widthAt r k) (numberAt r k)
         (omega (arith, z, bucketlet-end r k, bucketlet-within (suc k) (omega arith), first-bucketlet ws b, rises (bucketletStart r) 0 k (λ j g. bucketlets-rise r j) (omega arith)))))
 
   pub buckets-small : (n : ℕ) → n ≤ buckets ws → Small (sumOf n (bucketPiece ws x y))

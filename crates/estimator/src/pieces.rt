@@ -5,7 +5,7 @@ use estimate_rules::Fraction;
 ghost use mathlib.Core.Path.{_≡_};
 ghost use mathlib.Core.Bool.{true};
 ghost use Prim.Native.Nat.{_+_, _^_, _≤_, _<_, min, max};
-ghost use Rattle.counts_rules.specs.Base.{base};
+ghost use Rattle.counts_rules.specs.Form.{base};
 ghost use Rattle.counts_rules.specs.Class.{classNumber};
 ghost use Rattle.counts_rules.specs.Total.{totalNumber, validCode};
 ghost use Rattle.words_rules.specs.Words.{buckets};

@@ -54,7 +54,7 @@ pub fn find_place(words: &[u32], entry: u32) -> Place
     if number != 0 {
         return Place::Refused(number);
     }
-    Place::At(words::HEAD_WORDS + words::BUCKET_WORDS * bucket_of(words, entry))
+    Place::At(words_rules::HEAD_WORDS + words_rules::BUCKET_WORDS * bucket_of(words, entry))
 }
 
 // The words of the entry's bucket; the empty part at the list's start where find_fault gives a number. Either begins in the caller's own
@@ -66,6 +66,6 @@ pub fn find(words: &[u32], entry: u32) -> &[u32]
     let Place::At(at) = find_place(words, entry) else {
         return &words[0..0];
     };
-    let end = at + words::BUCKET_WORDS;
+    let end = at + words_rules::BUCKET_WORDS;
     &words[at..end]
 }

@@ -4,16 +4,14 @@ use mathlib.Core.Bool.{Bool, not, _&&_, _||_}
 use mathlib.Core.List.{List, [], _∷_, _++_}
 use Prim.Native.Nat.{ℕ}
 use lib.Dec.{eqb}
-use lib.ListN.{length, getD}
+use lib.ListN.{length}
 use Rattle.laws.specs.Each.{each}
 use Rattle.laws.specs.Refusal.{Sentence, refusal}
 use Rattle.laws.specs.Sums.{partSum}
-use Rattle.counts_rules.specs.Base.{base}
-use Rattle.counts_rules.specs.Class.{classNumber}
 use Rattle.counts_rules.specs.Total.{totalNumber}
 use Rattle.words_rules.specs.declared.Bucket.{Bucket}
 use Rattle.words_rules.specs.Words.{entries, theta, qn, qd, buckets, start, span}
-use Rattle.words_rules.specs.Decoded.{bucketAt, classAt, bucketletStart}
+use Rattle.words_rules.specs.Decoded.{bucketAt, classAt, bucketletStart, widthAt, numberAt}
 use Rattle.words_rules.specs.Reading.{readSentences}
 use Rattle.list_rules.specs.declared.Quality.{Quality}
 use Rattle.fit.specs.Fit.{near, bucketletFits}
@@ -36,7 +34,7 @@ qualityOf ws = record { theta = theta ws; qn = qn ws; qd = qd ws }
 -- bucketlet k of a bucket is empty, or it fits
 abbrev pub bucketletGood : Quality → List ℕ → Bucket → ℕ → Bool
 bucketletGood q fs r k =
-    eqb (getD (r .widths) k 0) 0 || bucketletFits q fs (bucketletStart r k) (getD (r .widths) k 0) (classNumber base (classAt r k))
+    eqb (widthAt r k) 0 || bucketletFits q fs (bucketletStart r k) (widthAt r k) (numberAt r k)
 
 -- the number of a total is within a factor q of the true count
 abbrev pub totalGood : Quality → ℕ → ℕ → Bool

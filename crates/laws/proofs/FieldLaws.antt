@@ -55,6 +55,10 @@ pub record Packed (x y k : ℕ) : Type 0 where
 pub of-kind : (a k : ℕ) → k ≤ 30 → Packed (a * 2 ^ 30) (a * 2 ^ 30) k
 of-kind a k h = record { is = refl; clear = clear-below (a * 2 ^ 30) 30 k h (mul-mod-left a (2 ^ 30)) }
 
+-- or a field alone
+pub alone : {p : ℕ} (v hi lo : ℕ) → p ≡ put v hi lo → Packed p (put v hi lo) lo
+alone v hi lo e = record { is = e; clear = mul-mod-left (v % 2 ^ (hi + 1 - lo)) (2 ^ lo) }
+
 -- and a field below
 pub onto : {x p y : ℕ} (v hi lo : ℕ) → lo ≤ hi → Packed x y (hi + 1) → p ≡ put v hi lo → Packed (bitOr x p) (y + put v hi lo) lo
 onto {x} {p} {y} v hi lo h c e =

@@ -10,3 +10,4 @@ pub mod PaddedLaws
 pub mod FieldLaws
 pub mod GreatestLaws
 pub mod Filled
+pub mod SetsLaws

@@ -6,6 +6,7 @@ use Prim.Native.Nat.{ℕ, _*_, _≤_}
 use borrow.Author.Tests.{leb-true, le-leb}
 use lib.Dec.{leb}
 use Rattle.laws.specs.Between.{between}
+use Rattle.counts_rules.specs.Form.{form}
 use Rattle.laws.proofs.BetweenLaws.{Within, within, is-within}
 use Rattle.laws.proofs.Tests.{both-left, both-right}
 use Rattle.list_rules.specs.Limits.{maxQ, qGood}
@@ -13,14 +14,14 @@ use Rattle.list_rules.specs.Limits.{maxQ, qGood}
 pub record GoodQ (qn qd : ℕ) : Type 0 where
   pub num : Within 1 maxQ qn
   pub den : Within 1 maxQ qd
-  pub least : 5 * qd ≤ 4 * qn
+  pub least : form .leastQn * qd ≤ form .leastQd * qn
 
 module _ (qn qd : ℕ) where
   pub good-q : qGood qn qd ≡ true → GoodQ qn qd
   good-q t =
       let n = between 1 maxQ qn in
       let d = between 1 maxQ qd in
-      let q = leb (5 * qd) (4 * qn) in
+      let q = leb (form .leastQn * qd) (form .leastQd * qn) in
       let nd = both-left (n && d) q t in
       record { num = within _ _ _ (both-left n d nd); den = within _ _ _ (both-right n d nd); least = leb-true _ _ (both-right (n && d) q t) }
 

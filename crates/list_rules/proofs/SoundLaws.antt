@@ -13,7 +13,7 @@ use Rattle.laws.specs.Refusal.{refusal}
 use Rattle.laws.specs.Sums.{sum}
 use Rattle.laws.proofs.EachLaws.{none-at}
 use Rattle.laws.proofs.RefusalLaws.{numbered, none-true}
-use Rattle.counts_rules.specs.Base.{limit}
+use Rattle.counts_rules.specs.Limit.{limit}
 use Rattle.laws.proofs.BetweenLaws.{within}
 use Rattle.list_rules.proofs.LimitLaws.{good-q}
 use Rattle.list_rules.specs.Limits.{maxEntries, maxTheta}

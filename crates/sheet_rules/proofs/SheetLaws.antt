@@ -10,18 +10,16 @@ use native.Mathlib.Nat.{eq-zero-or-pos}
 use native.Mathlib.Omega.{arith}
 use borrow.Author.Tests.{eqb-true, eq-eqb, ne-eqb, leb-true}
 use lib.Dec.{leb, eqb}
-use lib.ListN.{length, getD, set, drop, length-append}
+use lib.ListN.{length, set, drop, length-append}
 use lib.Seq.{sets}
 use Rattle.laws.specs.Refusal.{Sentence, refusal}
 use Rattle.laws.proofs.Tests.{both-left, both-right, tested}
 use Rattle.laws.proofs.SumsLaws.{prefix-mono, prefix-all}
-use Rattle.counts_rules.specs.Base.{base}
-use Rattle.counts_rules.specs.Class.{classNumber}
 use Rattle.counts_rules.specs.Total.{totalNumber}
 use Rattle.counts_rules.proofs.Proved.{classes, totals}
 use Rattle.words_rules.specs.declared.Bucket.{Bucket}
 use Rattle.words_rules.specs.Words.{entries, theta, qn, qd, buckets, start, end}
-use Rattle.words_rules.specs.Decoded.{bucketAt, classAt, bucketletStart, bucketletEnd}
+use Rattle.words_rules.specs.Decoded.{bucketAt, classAt, bucketletStart, bucketletEnd, widthAt, numberAt}
 use Rattle.words_rules.specs.Claims.{Holds}
 use Rattle.words_rules.proofs.Proved.{histogram}
 use Rattle.build_rules.specs.Words.{words}
@@ -84,26 +82,26 @@ refused-short number h = labelled-short "refused " number 10 (omega arith) h the
 
 module _ (r : Bucket) (k : ℕ) where
   abbrev line : List ℕ
-  line = bucketletLine (bucketletStart r k) (bucketletEnd r k) (classAt r k) (classNumber base (classAt r k))
+  line = bucketletLine (bucketletStart r k) (bucketletEnd r k) (classAt r k) (numberAt r k)
 
-  pub empty-part : getD (r .widths) k 0 ≡ 0 → bucketletPart r k ≡ []
+  pub empty-part : widthAt r k ≡ 0 → bucketletPart r k ≡ []
   unfolding bucketletPart
-  empty-part e = ap (λ (t : Bool). cond t [] line) (eq-eqb (getD (r .widths) k 0) 0 e)
+  empty-part e = ap (λ (t : Bool). cond t [] line) (eq-eqb (widthAt r k) 0 e)
 
-  pub some-part : 0 < getD (r .widths) k 0 → bucketletPart r k ≡ line
+  pub some-part : 0 < widthAt r k → bucketletPart r k ≡ line
   unfolding bucketletPart
-  some-part h = ap (λ (t : Bool). cond t [] line) (ne-eqb (getD (r .widths) k 0) 0 (λ e. omega arith))
+  some-part h = ap (λ (t : Bool). cond t [] line) (ne-eqb (widthAt r k) 0 (λ e. omega arith))
 
 pub bucketlet-short : (r : Bucket) → Printable r → (k : ℕ) → k < 8 → Short (bucketletPart r k) 35
-bucketlet-short r p k h = ⊎-elim none some (eq-zero-or-pos (getD (r .widths) k 0))
+bucketlet-short r p k h = ⊎-elim none some (eq-zero-or-pos (widthAt r k))
   where
-    none : getD (r .widths) k 0 ≡ 0 → Short (bucketletPart r k) 35
+    none : widthAt r k ≡ 0 → Short (bucketletPart r k) 35
     none e = record { within = omega (arith, ap length (empty-part r k e)) }
 
-    some : 0 < getD (r .widths) k 0 → Short (bucketletPart r k) 35
+    some : 0 < widthAt r k → Short (bucketletPart r k) 35
     some q =
         let printed =
-        bucketlet-line-short (bucketletStart r k) (bucketletEnd r k) (classAt r k) (classNumber base (classAt r k))
+        bucketlet-line-short (bucketletStart r k) (bucketletEnd r k) (classAt r k) (numberAt r k)
         (p .small k (omega arith))
         (p .small (suc k) (omega arith))
         (omega (arith, p .class-bits k h))

@@ -6,12 +6,10 @@ use Prim.Native.Nat.{ℕ, zero, suc}
 use lib.Dec.{eqb}
 use lib.ListN.{getD, drop}
 use Rattle.laws.specs.Refusal.{refusal}
-use Rattle.counts_rules.specs.Base.{base}
-use Rattle.counts_rules.specs.Class.{classNumber}
 use Rattle.counts_rules.specs.Total.{totalNumber}
 use Rattle.words_rules.specs.declared.Bucket.{Bucket}
 use Rattle.words_rules.specs.Words.{entries, theta, qn, qd, buckets, start, end}
-use Rattle.words_rules.specs.Decoded.{bucketAt, classAt, bucketletStart, bucketletEnd}
+use Rattle.words_rules.specs.Decoded.{bucketAt, classAt, bucketletStart, bucketletEnd, widthAt, numberAt}
 use Rattle.build_rules.specs.Words.{words}
 use Rattle.list_rules.specs.Quality.{quality, inputSentences}
 use Rattle.sheet_rules.specs.Input.{asDescribed, numbers}
@@ -25,9 +23,9 @@ joined (suc n) f = joined n f ++ f n
 -- bucketlet k of a bucket; an empty one is not printed
 unfoldable pub bucketletPart : Bucket → ℕ → List ℕ
 bucketletPart r k =
-    cond (eqb (getD (r .widths) k 0) 0)
+    cond (eqb (widthAt r k) 0)
     []
-    (bucketletLine (bucketletStart r k) (bucketletEnd r k) (classAt r k) (classNumber base (classAt r k)))
+    (bucketletLine (bucketletStart r k) (bucketletEnd r k) (classAt r k) (numberAt r k))
 
 -- bucket b of a histogram, and its bucketlets
 unfoldable pub bucketPart : List ℕ → ℕ → List ℕ

@@ -4,16 +4,14 @@ use mathlib.Core.Path.{_≡_, refl, sym, ap, _∙_, subst, subst⁻¹}
 use mathlib.Core.List.{List, [], _++_}
 use Prim.Native.Nat.{ℕ, suc, _+_, _*_, _≤_, _<_}
 use native.Mathlib.Omega.{arith}
-use lib.ListN.{length, getD, take, length-append}
+use lib.ListN.{length, take, length-append}
 use lib.Seq.{sets}
 use Rattle.laws.proofs.PaddedLaws.{padded-front}
-use Rattle.counts_rules.specs.Base.{base}
-use Rattle.counts_rules.specs.Class.{classNumber}
 use Rattle.counts_rules.specs.Total.{totalNumber}
 use Rattle.words_rules.specs.declared.Bucket.{Bucket}
 use Rattle.words_rules.specs.declared.Head.{Head}
 use Rattle.words_rules.specs.Words.{entries, theta, qn, qd, buckets, headOf, start, end}
-use Rattle.words_rules.specs.Decoded.{bucketAt, classAt, bucketletStart, bucketletEnd}
+use Rattle.words_rules.specs.Decoded.{bucketAt, classAt, bucketletStart, bucketletEnd, widthAt, numberAt}
 use Rattle.words_rules.proofs.EntryLaws.{bucketlet-end}
 use Rattle.sheet_rules.specs.Lines.{headLine, bucketLine, bucketletLine, refusedLine}
 use Rattle.sheet_rules.specs.Sheet.{joined, bucketletPart, bucketPart, histogramSheet}
@@ -60,8 +58,8 @@ refused-room l number e h =
 -- ---- bucketlets
 
 -- the line of a bucketlet, by the numbers in hand
-pub part-line : (r : Bucket) (k start end class number : ℕ) → 0 < getD (r .widths) k 0 → start ≡ bucketletStart r k → end ≡ start + getD (r .widths) k 0
-    → class ≡ classAt r k → number ≡ classNumber base (classAt r k) → bucketletLine start end class number ≡ bucketletPart r k
+pub part-line : (r : Bucket) (k start end class number : ℕ) → 0 < widthAt r k → start ≡ bucketletStart r k → end ≡ start + widthAt r k
+    → class ≡ classAt r k → number ≡ numberAt r k → bucketletLine start end class number ≡ bucketletPart r k
 part-line r k start end class number h s e c n =
     let next : end ≡ bucketletEnd r k = omega (arith, s, e, bucketlet-end r k) in
     ap (λ (x : ℕ). bucketletLine x end class number) s
@@ -81,7 +79,7 @@ unfolding joined
 none r old from = record { up-to = omega arith; begins = omega arith; done = put-nothing old from }
 
 pub some-more : (r : Bucket) (old out next : List ℕ) (from at end start k : ℕ) → k < 8 → Some r old out from at start k → Put out next at end (bucketletPart r k)
-    → Some r old next from end (start + getD (r .widths) k 0) (suc k)
+    → Some r old next from end (start + widthAt r k) (suc k)
 unfolding joined
 some-more r old out next from at end start k h s p =
     record { up-to = h; begins = omega (arith, s .begins, bucketlet-end r k); done = put-both (s .done) p }

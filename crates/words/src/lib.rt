@@ -1,16 +1,14 @@
 // What a list of words says: its head, and the span and the content of each of its buckets. Past the end of the list each word reads 0,
 // so that every call has an answer for every list and every number.
 
+use words_rules::BUCKET_WORDS;
 use words_rules::Bucket;
+use words_rules::HEAD_WORDS;
 use words_rules::Head;
 ghost use mathlib.Core.Path.{_≡_};
 ghost use Prim.Native.Nat.{_<_};
-ghost use Rattle.words_rules.specs.Words.{word, place, entries, buckets, headOf, packedAt, start, end, span};
+ghost use Rattle.words_rules.specs.Words.{bucketWords, word, place, entries, buckets, headOf, packedAt, start, end, span};
 ghost use Rattle.words_rules.specs.Decoded.{bucketAt};
-
-pub const HEAD_WORDS: usize = 4;
-
-pub const BUCKET_WORDS: usize = 5;
 
 // Word i.
 pub fn word_at(words: &[u32], i: usize) -> u32
@@ -46,7 +44,7 @@ pub fn head_at(words: &[u32]) -> Head
 
 // Word j of bucket b. A number of a bucket that is not below the list's length is past its end, and its place may not fit.
 fn bucket_word(words: &[u32], b: usize, j: usize) -> u32
-    requires { ⌜ j < 5 ⌝ }
+    requires { ⌜ j < bucketWords ⌝ }
     ensures { λ r. ⌜ r ≡ word (now (words .entry)) (place b j) ⌝ }
 {
     if b < words.len() {
@@ -57,7 +55,7 @@ fn bucket_word(words: &[u32], b: usize, j: usize) -> u32
 }
 
 // The words of bucket b, of which some may be past the end.
-fn packed_or_zeros(words: &[u32], b: usize) -> [u32; 5]
+fn packed_or_zeros(words: &[u32], b: usize) -> [u32; BUCKET_WORDS]
     ensures { λ r. ⌜ r ≡ packedAt (now (words .entry)) b ⌝ }
 {
     [
@@ -70,7 +68,7 @@ fn packed_or_zeros(words: &[u32], b: usize) -> [u32; 5]
 }
 
 // The words of bucket b. Where all are in the list, one test serves them.
-pub fn packed_at(words: &[u32], b: usize) -> [u32; 5]
+pub fn packed_at(words: &[u32], b: usize) -> [u32; BUCKET_WORDS]
     ensures { λ r. ⌜ r ≡ packedAt (now (words .entry)) b ⌝ }
 {
     if words.len() <= b {

@@ -1,5 +1,6 @@
 // Tests of words and of what they hold: a head, the words of a bucket, its widths, its classes and its total.
 
+use words_rules::BUCKET_WORDS;
 use words_rules::Bucket;
 use words_rules::Head;
 ghost use mathlib.Core.Path.{_≡_};
@@ -22,7 +23,7 @@ pub fn head_good(head: Head) -> bool
 }
 
 // Whether one of a bucket's words has a wrong kind or a set bit outside its fields: the three bits below the kind of the last two are 0.
-pub fn words_broken(packed: [u32; 5]) -> bool
+pub fn words_broken(packed: [u32; BUCKET_WORDS]) -> bool
     ensures { λ r. ⌜ r ≡ wordsBroken packed ⌝ }
 {
     if packed[0] >> 30 != 1 {
@@ -53,14 +54,17 @@ pub fn widths_broken(span: u32, listed: u32) -> bool
     4095 < span - listed
 }
 
-// Whether a class is 2 or 63, or is 0 where the width is not or the reverse.
+// Whether a class is one that no count has, or is 0 where the width is not or the reverse.
 pub fn class_broken(width: u32, class: u32) -> bool
     ensures { λ r. ⌜ r ≡ classBroken width class ⌝ }
 {
-    if class == 2 || class == 63 {
+    if class == 0 {
+        return width != 0;
+    }
+    if !counts::is_class(class) {
         return true;
     }
-    if class == 0 { width != 0 } else { width == 0 }
+    width == 0
 }
 
 // Whether a bucket has a class or a total code that is not valid where it stands.

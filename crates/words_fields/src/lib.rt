@@ -1,6 +1,8 @@
 // The fields of head words and of a bucket's words, taken out by shifts and masks.
 
+use words_rules::BUCKET_WORDS;
 use words_rules::Bucket;
+use words_rules::HEAD_WORDS;
 use words_rules::Head;
 ghost use mathlib.Core.Path.{_≡_};
 ghost use Prim.Native.Nat.{ℕ, _-_, _≤_, _<_};
@@ -26,7 +28,7 @@ pub fn start_of(first: u32) -> u32
     field_of(first, 29, 10)
 }
 
-fn listed_of(packed: [u32; 5]) -> [u32; 7]
+fn listed_of(packed: [u32; BUCKET_WORDS]) -> [u32; 7]
     ensures { λ r. ⌜ r ≡ listedIn packed ⌝ }
 {
     [
@@ -40,7 +42,7 @@ fn listed_of(packed: [u32; 5]) -> [u32; 7]
     ]
 }
 
-fn classes_of(packed: [u32; 5]) -> [u32; 8]
+fn classes_of(packed: [u32; BUCKET_WORDS]) -> [u32; 8]
     ensures { λ r. ⌜ r ≡ classesIn packed ⌝ }
 {
     [
@@ -63,7 +65,7 @@ fn sum_of(listed: [u32; 7]) -> u32
 }
 
 // The sum of the widths that a bucket's words list.
-pub fn listed_sum(packed: [u32; 5]) -> u32
+pub fn listed_sum(packed: [u32; BUCKET_WORDS]) -> u32
     ensures { λ r. ⌜ r ≡ sum (listedIn packed) ⌝ }
 {
     sum_of(listed_of(packed))
@@ -87,7 +89,7 @@ fn left_of(a: u32, b: u32) -> u32
 }
 
 // The bucket of these words that ends at an entry. Where the listed widths exceed its span the free width is 0.
-pub fn decode(packed: [u32; 5], end: u32) -> Bucket
+pub fn decode(packed: [u32; BUCKET_WORDS], end: u32) -> Bucket
     ensures { λ r. ⌜ r ≡ decode packed end ⌝ }
 {
     let listed = listed_of(packed);
@@ -104,7 +106,7 @@ pub fn decode(packed: [u32; 5], end: u32) -> Bucket
 }
 
 // What head words hold.
-pub fn head_of(packed: [u32; 4]) -> Head
+pub fn head_of(packed: [u32; HEAD_WORDS]) -> Head
     ensures { λ r. ⌜ r ≡ headOf packed ⌝ }
 {
     Head {

@@ -1,10 +1,14 @@
-// The words of a decoded bucket, packed by shifts and masks.
+// The words of a decoded bucket and of a head, packed by shifts and masks.
 
+use words_rules::BUCKET_WORDS;
 use words_rules::Bucket;
+use words_rules::HEAD_WORDS;
+use words_rules::Head;
 ghost use mathlib.Core.Path.{_≡_};
 ghost use mathlib.Core.Bool.{cond};
 ghost use Prim.Native.Nat.{_≤_, _<_};
 ghost use Rattle.laws.specs.Field.{put};
+ghost use Rattle.words_rules.specs.Words.{qWord, encodeHead};
 ghost use Rattle.words_rules.specs.Decoded.{listedAt, startWord, classWord, totalWord, widthWord, encode};
 
 // A value in bits hi to lo, cut to as many bits.
@@ -63,7 +67,7 @@ fn listed_at(bucket: Bucket, k: usize) -> u32
 }
 
 // The words of a bucket; each field is cut to its bits.
-pub fn encode(bucket: Bucket) -> [u32; 5]
+pub fn encode(bucket: Bucket) -> [u32; BUCKET_WORDS]
     ensures { λ r. ⌜ r ≡ encode bucket ⌝ }
 {
     let c = bucket.classes;
@@ -82,4 +86,18 @@ pub fn encode(bucket: Bucket) -> [u32; 5]
             listed_at(bucket, 6),
         ),
     ]
+}
+
+fn q_word(qn: u32, qd: u32) -> u32
+    ensures { λ r. ⌜ r ≡ qWord qn qd ⌝ }
+{
+    put_at(qn, 19, 10) | put_at(qd, 9, 0)
+}
+
+// The head words; each part of q is cut to its bits.
+pub fn encode_head(head: Head) -> [u32; HEAD_WORDS]
+    ensures { λ r. ⌜ r ≡ encodeHead head ⌝ }
+{
+    let q = q_word(head.qn, head.qd);
+    [head.entries, head.theta, q, head.buckets]
 }

@@ -7,7 +7,7 @@ ghost use Rattle.words_rules.specs.Reading.{headFault, lengthFault, wordFault, 
 fn head_fault(words: &[u32]) -> bool
     ensures { λ r. ⌜ r ≡ headFault (now (words .entry)) ⌝ }
 {
-    if words.len() < words::HEAD_WORDS {
+    if words.len() < words_rules::HEAD_WORDS {
         return true;
     }
     if words::word_at(words, 2) >> 20 != 0 {
@@ -20,7 +20,9 @@ fn head_fault(words: &[u32]) -> bool
 fn length_fault(words: &[u32]) -> bool
     ensures { λ r. ⌜ r ≡ lengthFault (now (words .entry)) ⌝ }
 {
-    words.len() != words::HEAD_WORDS + words::BUCKET_WORDS * (words::bucket_count(words) as usize)
+    words.len()
+        != words_rules::HEAD_WORDS
+            + words_rules::BUCKET_WORDS * (words::bucket_count(words) as usize)
 }
 
 // 9

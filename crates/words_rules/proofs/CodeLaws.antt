@@ -2,12 +2,12 @@
 -- Assumes nothing.
 use mathlib.Core.Path.{_≡_}
 use mathlib.Core.Bool.{Bool, true, false, not, _&&_, _||_}
-use Prim.Native.Nat.{ℕ, _-_, _^_, _≤_, _<_}
+use Prim.Native.Nat.{ℕ, _-_, _≤_, _<_}
 use native.Mathlib.Omega.{arith}
-use borrow.Author.Tests.{ltb-false, le-leb, lt-ltb, le-ltb, eqb-true, eqb-false, eq-eqb, ne-eqb, not-true, not-false}
-use lib.Dec.{leb, ltb, eqb}
-use Rattle.laws.proofs.Tests.{true-not-false, both, both-left, both-right, fails-other, neither, neither-left, neither-right, not-holds, is-false}
-use Rattle.counts_rules.specs.Base.{usedClass}
+use borrow.Author.Tests.{ltb-false, le-ltb, eqb-true, eqb-false, eq-eqb, ne-eqb, not-true, not-false}
+use lib.Dec.{ltb, eqb}
+use Rattle.laws.proofs.Tests.{true-not-false, both-left, both-right, fails-other, neither, neither-left, neither-right, not-holds, is-false}
+use Rattle.counts_rules.specs.Form.{usedClass}
 use Rattle.words_rules.specs.Reading.{widthsBroken, classBroken}
 
 -- the listed widths lie within the span, and leave at most 4,095 of it
@@ -28,10 +28,9 @@ module _ (span listed : ℕ) where
   unfolding widthsBroken
   no-width-fault r = neither (ltb span listed) _ (le-ltb span listed (r .inside)) (le-ltb 4095 (span - listed) (r .left))
 
--- a class is neither 2 nor 63, and is 0 exactly where the width is
+-- a class is 0 or one that counts have, and is 0 exactly where the width is
 pub record ClassGood (width class : ℕ) : Type 0 where
-  pub not-2 : class ≡ 2 → ⊥
-  pub not-63 : class ≡ 63 → ⊥
+  pub known : (class ≡ 0 → ⊥) → usedClass class ≡ true
   pub empty : width ≡ 0 → class ≡ 0
   pub full : class ≡ 0 → width ≡ 0
 
@@ -39,15 +38,14 @@ module _ (width class : ℕ) where
   pub class-good : classBroken width class ≡ false → ClassGood width class
   unfolding classBroken
   class-good f =
-      let x = eqb class 2 in
-      let y = eqb class 63 in
+      let x = not (eqb class 0) in
+      let y = not (usedClass class) in
       let u = eqb class 0 && not (eqb width 0) in
       let v = eqb width 0 && not (eqb class 0) in
-      let xy = neither-left (x || y) (u || v) f in
-      let uv = neither-right (x || y) (u || v) f in
+      let xy = neither-left (x && y) (u || v) f in
+      let uv = neither-right (x && y) (u || v) f in
       record {
-        not-2 = eqb-false class 2 (neither-left x y xy);
-        not-63 = eqb-false class 63 (neither-right x y xy);
+        known = λ n. not-false _ (fails-other x y xy (not-holds _ (ne-eqb class 0 n)));
         empty = λ e. eqb-true class 0 (not-false _ (fails-other (eqb width 0) _ (neither-right u v uv) (eq-eqb width 0 e)));
         full = λ e. eqb-true width 0 (not-false _ (fails-other (eqb class 0) _ (neither-left u v uv) (eq-eqb class 0 e)));
       }
@@ -55,18 +53,17 @@ module _ (width class : ℕ) where
   pub no-class-fault : ClassGood width class → classBroken width class ≡ false
   unfolding classBroken
   no-class-fault g =
+      let x = not (eqb class 0) in
+      let y = not (usedClass class) in
       let u = eqb class 0 && not (eqb width 0) in
       let v = eqb width 0 && not (eqb class 0) in
+      let xy : (x && y) ≡ false = is-false (x && y) (λ t. not-both x (usedClass class) t (λ e. g .known (eqb-false class 0 (not-true _ e)))) in
       let u-fails : u ≡ false = is-false u (λ t. not-both (eqb class 0) (eqb width 0) t (λ e. eq-eqb width 0 (g .full (eqb-true class 0 e)))) in
       let v-fails : v ≡ false = is-false v (λ t. not-both (eqb width 0) (eqb class 0) t (λ e. eq-eqb class 0 (g .empty (eqb-true width 0 e)))) in
-      neither (eqb class 2 || eqb class 63) (u || v) (neither _ _ (ne-eqb class 2 (g .not-2)) (ne-eqb class 63 (g .not-63))) (neither u v u-fails v-fails)
+      neither (x && y) (u || v) xy (neither u v u-fails v-fails)
     where
       not-both : (a b : Bool) → (a && not b) ≡ true → (a ≡ true → b ≡ true) → ⊥
       not-both a b t h = true-not-false (h (both-left a (not b) t)) (not-true b (both-right a (not b) t))
 
-  -- of six bits: one that counts have, or 0
-  pub class-used : class < 2 ^ 6 → ClassGood width class → 0 < width → usedClass class ≡ true
-  class-used h g l =
-      let not-0 : class ≡ 0 → ⊥ = λ e. let k : width ≡ 0 = g .full e in omega arith in
-      let n63 = g .not-63 in
-      both (leb 1 class && ltb class 63) (not (eqb class 2)) (both (leb 1 class) (ltb class 63) (le-leb 1 class (omega arith)) (lt-ltb class 63 (omega arith))) (not-holds _ (ne-eqb class 2 (g .not-2)))
+  pub class-used : ClassGood width class → 0 < width → usedClass class ≡ true
+  class-used g l = g .known (λ e. let k : width ≡ 0 = g .full e in omega arith)

@@ -17,7 +17,7 @@ use Rattle.laws.proofs.SumsLaws.{sum-append}
 use Rattle.laws.proofs.Tests.{both-left, both-right, neither-left, neither-right, tested}
 use Rattle.words_rules.specs.declared.Bucket.{Bucket}
 use Rattle.words_rules.specs.Words.{word, kind, startIn, flagIn, listedIn, classesIn}
-use Rattle.words_rules.specs.Decoded.{withFree, decode, listedAt, classAt, ofKind, startWord, classWord, totalWord, widthWord, encode}
+use Rattle.words_rules.specs.Decoded.{withFree, decode, listedAt, classAt, ofKind, startWord, classWord, totalWord, widthWord, encode, widthAt}
 use Rattle.words_rules.specs.Reading.{wrongKind, outsideBit, wordsBroken}
 use Rattle.words_rules.specs.Claims.{InRange}
 
@@ -293,7 +293,7 @@ most-with-free m true free l a h = most-after m l free a h
 most-with-free m false free l a h = (h, a)
 
 -- a width is listed or the free one
-pub decoded-width : (packed : List ℕ) (end m : ℕ) → 511 ≤ m → end - startIn packed - sum (listedIn packed) ≤ m → (k : ℕ) → getD (decode packed end .widths) k 0 ≤ m
+pub decoded-width : (packed : List ℕ) (end m : ℕ) → 511 ≤ m → end - startIn packed - sum (listedIn packed) ≤ m → (k : ℕ) → widthAt (decode packed end) k ≤ m
 unfolding decode
 decoded-width packed end m h f k =
     most-at m (decode packed end .widths) (most-with-free m (flagIn packed) _ (listedIn packed) (most-up 511 m (listedIn packed) h (listed-most packed)) f) k

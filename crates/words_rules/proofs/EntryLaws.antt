@@ -20,7 +20,7 @@ use Rattle.laws.proofs.SumsLaws.{prefix-suc, prefix-mono, prefix-all}
 use Rattle.laws.proofs.Tests.{true-not-false}
 use Rattle.words_rules.specs.declared.Bucket.{Bucket}
 use Rattle.words_rules.specs.Words.{word, place, entries, buckets, packedAt, start, end}
-use Rattle.words_rules.specs.Decoded.{decode, bucketAt, bucketletStart, bucketletEnd}
+use Rattle.words_rules.specs.Decoded.{decode, bucketAt, bucketletStart, bucketletEnd, widthAt}
 use Rattle.words_rules.specs.Reading.{readSentences, readFault, Readable}
 use Rattle.words_rules.specs.Finding.{entryFault, findFault, bucketOf, findReply, found, bucketletOf}
 use Rattle.words_rules.specs.Claims.{InBucket, InBucketlet, Entries, Finds}
@@ -29,7 +29,7 @@ use Rattle.words_rules.proofs.StartLaws.{tiles, starts-mono, end-next}
 use Rattle.words_rules.proofs.ReadingLaws.{NoFault, no-fault, limits, starts-in, holds}
 
 -- a bucketlet ends after its width
-pub bucketlet-end : (r : Bucket) (k : ℕ) → bucketletEnd r k ≡ bucketletStart r k + getD (r .widths) k 0
+pub bucketlet-end : (r : Bucket) (k : ℕ) → bucketletEnd r k ≡ bucketletStart r k + widthAt r k
 bucketlet-end r k = omega (arith, prefix-suc k (r .widths))
 
 module _ (ws : List ℕ) (f : NoFault ws) where
@@ -73,7 +73,7 @@ one-bucketlet r e k i =
     (λ m _ l. le-ltb e (bucketletEnd r m) (omega (arith, prefix-mono (suc m) k (r .widths) l, i .from)))
     (lt-ltb _ _ (i .before))
 
-pub not-empty : (r : Bucket) (e k : ℕ) → InBucketlet r e k → 0 < getD (r .widths) k 0
+pub not-empty : (r : Bucket) (e k : ℕ) → InBucketlet r e k → 0 < widthAt r k
 not-empty r e k i = omega (arith, prefix-suc k (r .widths), i .from, i .before)
 
 pub has-bucketlet : (r : Bucket) (e : ℕ) → length (r .widths) ≡ 8 → r .start ≤ e → e < r .start + prefixSum 8 (r .widths) → InBucketlet r e (bucketletOf r e)

@@ -1,9 +1,11 @@
--- A head is good exactly where what it holds is within its limits (specs/Reading.antt, sentence 7).
+-- A head is good exactly where what it holds is within its limits (specs/Reading.antt, sentence 7), and packing and reading it undo one
+-- another.
 -- Assumes nothing.
-use mathlib.Core.Path.{_≡_, ap}
+use mathlib.Core.Path.{_≡_, sym, ap, _∙_}
 use mathlib.Core.Bool.{Bool, true, false, not, _&&_, _||_}
-use mathlib.Core.List.{List}
+use mathlib.Core.List.{List, [], _∷_}
 use Prim.Native.Nat.{ℕ, _^_, _≤_, _<_}
+use native.Mathlib.Omega.{arith}
 use borrow.Author.Tests.{ltb-true, ltb-false, lt-ltb, le-ltb, not-false}
 use lib.Dec.{ltb}
 use lib.ListN.{length}
@@ -11,8 +13,10 @@ use Rattle.laws.proofs.Tests.{both, both-left, both-right, neither-left, neithe
 use Rattle.words_rules.specs.declared.Head.{Head}
 use Rattle.laws.specs.Between.{between}
 use Rattle.list_rules.specs.Limits.{entriesGood, thetaGood, qGood}
-use Rattle.words_rules.specs.Words.{word, headOf}
+use Rattle.words_rules.specs.Words.{headWords, word, qn, qd, headOf, qWord, encodeHead}
 use Rattle.words_rules.specs.Reading.{headGood, headFault}
+use Rattle.words_rules.specs.Claims.{HeadInRange}
+use Rattle.words_rules.proofs.DecodedLaws.{by-elements}
 
 pub record GoodHead (h : Head) : Type 0 where
   pub entries : entriesGood (h .entries) ≡ true
@@ -59,3 +63,16 @@ module _ (ws : List ℕ) where
   pub no-head-fault : HeadWords ws → headFault ws ≡ false
   unfolding headFault
   no-head-fault f = simp (le-ltb _ _ (f .words), lt-ltb _ _ (f .q-bits), f .head)
+
+-- ---- a head comes back from its words, and they from it
+
+pub head-back : (h : Head) → HeadInRange h → headOf (encodeHead h) ≡ h
+head-back h b =
+    let n : qn (encodeHead h) ≡ h .qn = omega (arith, b .qn-bits, b .qd-bits) in
+    let d : qd (encodeHead h) ≡ h .qd = omega (arith, b .qn-bits, b .qd-bits) in
+    λ i. record { entries = h .entries; theta = h .theta; qn = n i; qd = d i; buckets = h .buckets }
+
+pub head-again : (ws : List ℕ) → length ws ≡ headWords → word ws 2 < 2 ^ 20 → encodeHead (headOf ws) ≡ ws
+head-again ws e h =
+    let q : qWord (qn ws) (qd ws) ≡ word ws 2 = omega arith in
+    ap (λ (w : ℕ). word ws 0 ∷ word ws 1 ∷ w ∷ word ws 3 ∷ []) q ∙ sym (by-elements headWords ws e)

@@ -2,12 +2,14 @@
 -- Assumes nothing.
 use Rattle.words_rules.specs.Claims.{Inverse, Histogram}
 use Rattle.words_rules.proofs.DecodedLaws.{decode-encode, encode-decode, encoded, decoded}
+use Rattle.words_rules.proofs.HeadLaws.{head-back, head-again}
 use Rattle.words_rules.proofs.StartLaws.{tiles}
 use Rattle.words_rules.proofs.ReadingLaws.{no-fault, limits, starts-in, holds}
 use Rattle.words_rules.proofs.EntryLaws.{entries-in, finds}
 
 pub inverse : Inverse
-inverse = record { decode-encode = decode-encode; encode-decode = encode-decode; encoded = encoded; decoded = decoded }
+inverse =
+    record { head-back = head-back; head-again = head-again; decode-encode = decode-encode; encode-decode = encode-decode; encoded = encoded; decoded = decoded }
 
 pub histogram : Histogram
 histogram =

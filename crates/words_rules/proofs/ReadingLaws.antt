@@ -15,7 +15,7 @@ use Rattle.laws.proofs.RefusalLaws.{numbered, none-true}
 use Rattle.laws.proofs.Tests.{neither-left, neither-right}
 use Rattle.counts_rules.specs.Total.{validCode}
 use Rattle.words_rules.specs.Words.{word, kind, entries, theta, qn, qd, buckets, headOf, packedAt, startIn, listedIn, start, end, span}
-use Rattle.words_rules.specs.Decoded.{classAt, bucketAt}
+use Rattle.words_rules.specs.Decoded.{classAt, bucketAt, widthAt}
 use Rattle.words_rules.specs.Reading.{headFault, lengthFault, wordFault, startFault, widthsBroken, widthFault, classBroken, codesBroken, codeFault, readSentences, readFault, Readable}
 use Rattle.words_rules.specs.Claims.{HeadLimits, Holds}
 use Rattle.words_rules.proofs.DecodedLaws.{class-bits, decoded, decoded-sum, decoded-width}
@@ -117,11 +117,11 @@ module _ (ws : List ℕ) (f : NoFault ws) (b : ℕ) (h : b < buckets ws) where
   fits-in : startIn (packedAt ws b) + sum (listedIn (packedAt ws b)) ≤ end ws b
   fits-in = let s : start ws b < end ws b = tiles ws (starts-in ws f) .not-empty b h in let r = room-in .inside in omega arith
 
-  class-in : (k : ℕ) → k < 8 → ClassGood (getD (bucketAt ws b .widths) k 0) (classAt (bucketAt ws b) k)
+  class-in : (k : ℕ) → k < 8 → ClassGood (widthAt (bucketAt ws b) k) (classAt (bucketAt ws b) k)
   unfolding codesBroken
   class-in k g =
       let r = bucketAt ws b in
-      class-good _ _ (none-at 8 (λ k. classBroken (getD (r .widths) k 0) (getD (r .classes) k 0)) (neither-left _ (not (validCode (r .total))) codes-in) k g)
+      class-good _ _ (none-at 8 (λ k. classBroken (widthAt r k) (classAt r k)) (neither-left _ (not (validCode (r .total))) codes-in) k g)
 
   pub holds : Holds ws b
   unfolding codesBroken
@@ -133,6 +133,6 @@ module _ (ws : List ℕ) (f : NoFault ws) (b : ℕ) (h : b < buckets ws) where
         spanned = decoded-sum packed (end ws b) fits-in;
         widths = decoded-width packed (end ws b) 4095 (omega arith) (room-in .left);
         empty-class = λ k g. class-in k g .empty;
-        class-used = λ k g. class-used _ _ (class-bits packed (end ws b) k) (class-in k g);
-        total-valid = not-false _ (neither-right (some 8 (λ k. classBroken (getD (r .widths) k 0) (getD (r .classes) k 0))) (not (validCode (r .total))) codes-in);
+        class-used = λ k g. class-used _ _ (class-in k g);
+        total-valid = not-false _ (neither-right (some 8 (λ k. classBroken (widthAt r k) (classAt r k))) (not (validCode (r .total))) codes-in);
       }

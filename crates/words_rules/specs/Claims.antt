@@ -5,15 +5,16 @@ use mathlib.Core.Path.{_≡_}
 use mathlib.Core.Bool.{true, false}
 use mathlib.Core.List.{List}
 use Prim.Native.Nat.{ℕ, _+_, _-_, _*_, _^_, _≤_, _<_}
-use lib.ListN.{length, getD}
+use lib.ListN.{length}
 use Rattle.laws.specs.Sums.{sum}
-use Rattle.counts_rules.specs.Base.{usedClass}
+use Rattle.counts_rules.specs.Form.{form, usedClass}
 use Rattle.counts_rules.specs.Total.{validCode}
+use Rattle.words_rules.specs.declared.Head.{Head}
 use Rattle.words_rules.specs.declared.Bucket.{Bucket}
 use Rattle.list_rules.specs.Limits.{maxEntries, maxTheta, maxQ}
 use Rattle.words_rules.specs.Limits.{maxListed, maxWidth}
-use Rattle.words_rules.specs.Words.{headWords, bucketWords, word, kind, entries, theta, qn, qd, buckets, packedAt, startIn, listedIn, start, end, span}
-use Rattle.words_rules.specs.Decoded.{decode, encode, listedAt, classAt, bucketAt, bucketletStart, bucketletEnd}
+use Rattle.words_rules.specs.Words.{headWords, bucketWords, word, kind, entries, theta, qn, qd, buckets, headOf, encodeHead, packedAt, startIn, listedIn, start, end, span}
+use Rattle.words_rules.specs.Decoded.{decode, encode, listedAt, classAt, bucketAt, bucketletStart, bucketletEnd, widthAt}
 use Rattle.words_rules.specs.Reading.{wordsBroken, Readable}
 use Rattle.words_rules.specs.Finding.{findFault, bucketOf, found, bucketletOf}
 
@@ -23,13 +24,22 @@ pub record InRange (r : Bucket) (end : ℕ) : Type 0 where
   pub eight-classes : length (r .classes) ≡ 8
   pub start-bits : r .start < 2 ^ 20
   pub listed-bits : (k : ℕ) → k < 7 → listedAt r k ≤ maxListed
-  pub class-bits : (k : ℕ) → k < 8 → classAt r k < 2 ^ 6
+  pub class-bits : (k : ℕ) → k < 8 → classAt r k < 2 ^ form .classBits
   pub total-bits : r .total < 2 ^ 12
   pub ends : r .start + sum (r .widths) ≡ end
 
+-- the parts of q that a head holds have ten bits
+pub record HeadInRange (h : Head) : Type 0 where
+  pub qn-bits : h .qn < 2 ^ 10
+  pub qd-bits : h .qd < 2 ^ 10
+
 pub record Inverse : Type 0 where
+  -- of heads; of the third word only twenty bits are fields
+  pub head-back : (h : Head) → HeadInRange h → headOf (encodeHead h) ≡ h
+  pub head-again : (ws : List ℕ) → length ws ≡ headWords → word ws 2 < 2 ^ 20 → encodeHead (headOf ws) ≡ ws
+  -- of buckets
   pub decode-encode : (r : Bucket) (end : ℕ) → InRange r end → decode (encode r) end ≡ r
-  pub encode-decode : (packed : List ℕ) (end : ℕ) → length packed ≡ 5 → wordsBroken packed ≡ false → encode (decode packed end) ≡ packed
+  pub encode-decode : (packed : List ℕ) (end : ℕ) → length packed ≡ bucketWords → wordsBroken packed ≡ false → encode (decode packed end) ≡ packed
   -- what either gives is in range for the other
   pub encoded : (r : Bucket) → wordsBroken (encode r) ≡ false
   pub decoded : (packed : List ℕ) (end : ℕ) → startIn packed + sum (listedIn packed) ≤ end → InRange (decode packed end) end
@@ -45,7 +55,7 @@ pub record HeadLimits (ws : List ℕ) : Type 0 where
   pub most-qn : qn ws ≤ maxQ
   pub least-qd : 1 ≤ qd ws
   pub most-qd : qd ws ≤ maxQ
-  pub least-q : 5 * qd ws ≤ 4 * qn ws
+  pub least-q : form .leastQn * qd ws ≤ form .leastQd * qn ws
   pub some-buckets : 1 ≤ buckets ws
   pub most-buckets : buckets ws ≤ entries ws
 
@@ -75,7 +85,7 @@ pub record Entries (ws : List ℕ) : Type 0 where
   pub one-bucket : (e b : ℕ) → InBucket ws e b → bucketOf ws e ≡ b
   pub has-bucketlet : (e b : ℕ) → InBucket ws e b → InBucketlet (bucketAt ws b) e (bucketletOf (bucketAt ws b) e)
   pub one-bucketlet : (e b k : ℕ) → InBucketlet (bucketAt ws b) e k → bucketletOf (bucketAt ws b) e ≡ k
-  pub not-empty : (e b k : ℕ) → InBucketlet (bucketAt ws b) e k → 0 < getD (bucketAt ws b .widths) k 0
+  pub not-empty : (e b k : ℕ) → InBucketlet (bucketAt ws b) e k → 0 < widthAt (bucketAt ws b) k
 
 -- the finder hands back the words of the entry's bucket
 pub record Finds (ws : List ℕ) : Type 0 where
@@ -86,9 +96,9 @@ pub record Finds (ws : List ℕ) : Type 0 where
 pub record Holds (ws : List ℕ) (b : ℕ) : Type 0 where
   pub in-range : InRange (bucketAt ws b) (end ws b)
   pub spanned : sum (bucketAt ws b .widths) ≡ span ws b
-  pub widths : (k : ℕ) → getD (bucketAt ws b .widths) k 0 ≤ maxWidth
-  pub empty-class : (k : ℕ) → k < 8 → getD (bucketAt ws b .widths) k 0 ≡ 0 → classAt (bucketAt ws b) k ≡ 0
-  pub class-used : (k : ℕ) → k < 8 → 0 < getD (bucketAt ws b .widths) k 0 → usedClass (classAt (bucketAt ws b) k) ≡ true
+  pub widths : (k : ℕ) → widthAt (bucketAt ws b) k ≤ maxWidth
+  pub empty-class : (k : ℕ) → k < 8 → widthAt (bucketAt ws b) k ≡ 0 → classAt (bucketAt ws b) k ≡ 0
+  pub class-used : (k : ℕ) → k < 8 → 0 < widthAt (bucketAt ws b) k → usedClass (classAt (bucketAt ws b) k) ≡ true
   pub total-valid : validCode (bucketAt ws b .total) ≡ true
 
 pub record Histogram : Type 0 where

@@ -7,6 +7,8 @@ use Prim.Native.Nat.{ℕ, suc, _+_, _-_, _*_, _^_}
 use lib.ListN.{getD}
 use Rattle.laws.specs.Field.{put}
 use Rattle.laws.specs.Sums.{sum, prefixSum}
+use Rattle.counts_rules.specs.Form.{base}
+use Rattle.counts_rules.specs.Class.{classNumber}
 use Rattle.words_rules.specs.declared.Bucket.{Bucket}
 use Rattle.words_rules.specs.Words.{startIn, flagIn, listedIn, classesIn, totalIn, packedAt, end}
 
@@ -26,12 +28,20 @@ decode packed end =
       total = totalIn packed;
     }
 
--- the listed width k, 0 to 6
-abbrev pub listedAt : Bucket → ℕ → ℕ
-listedAt r k = getD (r .widths) (cond (r .flag) k (suc k)) 0
+-- the width, the class and the number of bucketlet k, 0 to 7
+
+abbrev pub widthAt : Bucket → ℕ → ℕ
+widthAt r k = getD (r .widths) k 0
 
 abbrev pub classAt : Bucket → ℕ → ℕ
 classAt r k = getD (r .classes) k 0
+
+abbrev pub numberAt : Bucket → ℕ → ℕ
+numberAt r k = classNumber base (classAt r k)
+
+-- the listed width k, 0 to 6
+abbrev pub listedAt : Bucket → ℕ → ℕ
+listedAt r k = widthAt r (cond (r .flag) k (suc k))
 
 -- the words of a bucket; each field is cut to its bits
 

@@ -5,11 +5,12 @@ use mathlib.Core.Bool.{Bool, not, _&&_, _||_}
 use mathlib.Core.List.{List, [], _∷_}
 use Prim.Native.Nat.{ℕ, _+_, _-_, _*_, _^_}
 use lib.Dec.{leb, ltb, eqb}
-use lib.ListN.{length, getD}
+use lib.ListN.{length}
 use Rattle.laws.specs.Each.{some}
 use Rattle.laws.specs.Field.{field}
 use Rattle.laws.specs.Refusal.{Sentence, refusal}
 use Rattle.laws.specs.Sums.{sum}
+use Rattle.counts_rules.specs.Form.{usedClass}
 use Rattle.counts_rules.specs.Total.{validCode}
 use Rattle.words_rules.specs.declared.Head.{Head}
 use Rattle.words_rules.specs.declared.Bucket.{Bucket}
@@ -17,7 +18,7 @@ use Rattle.laws.specs.Between.{between}
 use Rattle.list_rules.specs.Limits.{entriesGood, thetaGood, qGood}
 use Rattle.words_rules.specs.Limits.{maxWidth}
 use Rattle.words_rules.specs.Words.{headWords, bucketWords, word, kind, entries, buckets, headOf, packedAt, listedIn, start, span}
-use Rattle.words_rules.specs.Decoded.{bucketAt}
+use Rattle.words_rules.specs.Decoded.{widthAt, classAt, bucketAt}
 
 -- 7: there are fewer than four words, or a head word breaks its layout or limits. Of the third only bits 19 to 0 are fields; a word that is
 -- within its limits has kind 0.
@@ -64,13 +65,13 @@ widthsBroken span listed = ltb span listed || ltb maxWidth (span - listed)
 unfoldable pub widthFault : List ℕ → Bool
 widthFault ws = some (buckets ws) (λ b. widthsBroken (span ws b) (sum (listedIn (packedAt ws b))))
 
--- 12: a class is 2 or 63, a class is 0 where the width is not or the reverse, or a total code is not valid
+-- 12: a class is 2 or 63, which are those of six bits that no count has, a class is 0 where the width is not or the reverse, or a total code is not valid
 
 unfoldable pub classBroken : ℕ → ℕ → Bool
-classBroken width class = (eqb class 2 || eqb class 63) || (eqb class 0 && not (eqb width 0) || eqb width 0 && not (eqb class 0))
+classBroken width class = (not (eqb class 0) && not (usedClass class)) || (eqb class 0 && not (eqb width 0) || eqb width 0 && not (eqb class 0))
 
 unfoldable pub codesBroken : Bucket → Bool
-codesBroken r = some 8 (λ k. classBroken (getD (r .widths) k 0) (getD (r .classes) k 0)) || not (validCode (r .total))
+codesBroken r = some 8 (λ k. classBroken (widthAt r k) (classAt r k)) || not (validCode (r .total))
 
 unfoldable pub codeFault : List ℕ → Bool
 codeFault ws = some (buckets ws) (λ b. codesBroken (bucketAt ws b))

@@ -6,14 +6,15 @@ use mathlib.Core.List.{List, [], _∷_}
 use Prim.Native.Nat.{ℕ, _+_, _-_, _*_, _/_, _^_}
 use lib.Dec.{ltb, eqb}
 use lib.ListN.{getD}
-use Rattle.laws.specs.Field.{field}
+use Rattle.laws.specs.Field.{field, put}
+use Rattle.counts_rules.specs.Form.{form}
 use Rattle.words_rules.specs.declared.Head.{Head}
 
 abbrev pub headWords : ℕ
 headWords = 4
 
 abbrev pub bucketWords : ℕ
-bucketWords = 5
+bucketWords = form .bucketWords
 
 abbrev pub word : List ℕ → ℕ → ℕ
 word ws i = getD ws i 0
@@ -45,6 +46,14 @@ buckets ws = word ws 3
 
 abbrev pub headOf : List ℕ → Head
 headOf ws = record { entries = entries ws; theta = theta ws; qn = qn ws; qd = qd ws; buckets = buckets ws }
+
+-- and back, each part of q cut to its bits
+
+abbrev pub qWord : ℕ → ℕ → ℕ
+qWord qn qd = put qn 19 10 + put qd 9 0
+
+abbrev pub encodeHead : Head → List ℕ
+encodeHead h = h .entries ∷ h .theta ∷ qWord (h .qn) (h .qd) ∷ h .buckets ∷ []
 
 -- the words of bucket b
 abbrev pub packedAt : List ℕ → ℕ → List ℕ

@@ -1,4 +1,25 @@
-// The words of a histogram: the definitions, what is proved of them, and the types that code and definitions share. There is no code.
+// The words of a histogram: the definitions, what is proved of them, and the types and sizes that code and definitions share.
+
+ghost use mathlib.Core.Path.{_≡_};
+ghost use Rattle.words_rules.specs.Words.{headWords, bucketWords};
+
+pub const HEAD_WORDS: usize = 4;
+
+pub const BUCKET_WORDS: usize = 5;
+
+// The two sizes are those of the definitions.
+
+pub fn words_of_head() -> usize
+    ensures { λ r. ⌜ r ≡ headWords ⌝ }
+{
+    HEAD_WORDS
+}
+
+pub fn words_of_bucket() -> usize
+    ensures { λ r. ⌜ r ≡ bucketWords ⌝ }
+{
+    BUCKET_WORDS
+}
 
 // What the head words hold: d, theta, q as qn/qd, and the number of buckets.
 pub struct Head {

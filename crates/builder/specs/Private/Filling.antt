@@ -6,14 +6,11 @@ use Prim.Native.Nat.{ℕ, _+_, _*_, _≤_}
 use lib.ListN.{length, take, drop}
 use Rattle.words_rules.specs.Words.{headWords, bucketWords}
 use Rattle.list_rules.specs.declared.Quality.{Quality}
-use Rattle.build_rules.specs.Words.{stretch, bucketWordsOf, words}
+use Rattle.build_rules.specs.Words.{stretch, bucketWordsOf, words, maxWords}
 
 -- no list has more buckets, since all before its end hold eight entries
 abbrev pub maxBuckets : ℕ
 maxBuckets = 8192
-
-abbrev pub maxWords : ℕ
-maxWords = 40964
 
 -- the words of the buckets stand after the head's place, and there are b buckets
 pub record Bodied (fs : List ℕ) (q : Quality) (old new : List ℕ) (b : ℕ) : Type 0 where

@@ -5,7 +5,8 @@ use mathlib.Core.Bool.{true}
 use mathlib.Core.List.{List}
 use Prim.Native.Nat.{ℕ, _+_, _*_, _^_, _≤_, _<_}
 use lib.ListN.{length}
-use Rattle.counts_rules.specs.Base.{limit, usedClass}
+use Rattle.counts_rules.specs.Limit.{limit}
+use Rattle.counts_rules.specs.Form.{usedClass}
 use Rattle.counts_rules.specs.Total.{validCode}
 use Rattle.list_rules.specs.Limits.{maxTheta, maxQ}
 use Rattle.words_rules.specs.Limits.{maxWidth}

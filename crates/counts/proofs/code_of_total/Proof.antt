@@ -4,7 +4,7 @@ use Prim.Native.Nat.{_*_, _/_, _%_, _^_}
 use native.Mathlib.Omega.{arith}
 use borrow.Author.Needs.{needs}
 use lib.Bits.{or-comm}
-use Rattle.counts_rules.specs.Base.{countable}
+use Rattle.counts_rules.specs.Limit.{countable}
 use Rattle.counts_rules.specs.Total.{totalCode}
 use Rattle.counts_rules.proofs.TotalLaws.{shift-small}
 use Rattle.counts.specs.declared.Coded.the-variants.{Code, Refused}

@@ -4,7 +4,7 @@ use mathlib.Core.Path.{_≡_}
 use mathlib.Core.Bool.{true}
 use mathlib.Core.Logic.{_⊎_}
 use Prim.Native.Nat.{ℕ, _+_, _*_, _^_, _≤_, _<_}
-use Rattle.counts_rules.specs.Base.{base, usedClass}
+use Rattle.counts_rules.specs.Form.{base, usedClass}
 use Rattle.counts_rules.specs.Class.{classNumber}
 use Rattle.words_rules.specs.Limits.{maxWidth}
 use Rattle.estimate_rules.specs.declared.Fraction.{Fraction}

@@ -4,7 +4,8 @@ use mathlib.Core.List.{List}
 use Prim.Native.Nat.{ℕ, _*_, _≤_, _<_}
 use lib.ListN.{length, getD}
 use Rattle.laws.specs.Sums.{sum}
-use Rattle.counts_rules.specs.Base.{limit}
+use Rattle.counts_rules.specs.Limit.{limit}
+use Rattle.counts_rules.specs.Form.{form}
 use Rattle.list_rules.specs.Limits.{maxEntries, maxTheta, maxQ}
 use Rattle.list_rules.specs.declared.Quality.{Quality}
 
@@ -18,4 +19,4 @@ pub record Sound (fs : List ℕ) (q : Quality) : Type 0 where
   pub qn-small : q .qn ≤ maxQ
   pub qd-some : 1 ≤ q .qd
   pub qd-small : q .qd ≤ maxQ
-  pub factor : 5 * q .qd ≤ 4 * q .qn
+  pub factor : form .leastQn * q .qd ≤ form .leastQd * q .qn

@@ -4,11 +4,10 @@ use mathlib.Core.Path.{_≡_}
 use mathlib.Core.Bool.{true}
 use mathlib.Core.List.{List}
 use Prim.Native.Nat.{ℕ, _^_, _≤_, _<_}
-use lib.ListN.{getD}
-use Rattle.counts_rules.specs.Base.{usedClass}
+use Rattle.counts_rules.specs.Form.{usedClass}
 use Rattle.words_rules.specs.declared.Bucket.{Bucket}
 use Rattle.words_rules.specs.Words.{entries, buckets}
-use Rattle.words_rules.specs.Decoded.{classAt, bucketletStart}
+use Rattle.words_rules.specs.Decoded.{classAt, bucketletStart, widthAt}
 use Rattle.words_rules.specs.Reading.{Readable}
 
 -- a histogram of so few entries and buckets that its sheet has room
@@ -21,4 +20,4 @@ pub record Roomy (ws : List ℕ) : Type 0 where
 pub record Printable (r : Bucket) : Type 0 where
   pub small : (k : ℕ) → k ≤ 8 → bucketletStart r k < 10 ^ 4
   pub class-bits : (k : ℕ) → k < 8 → classAt r k < 2 ^ 6
-  pub class-used : (k : ℕ) → k < 8 → 0 < getD (r .widths) k 0 → usedClass (classAt r k) ≡ true
+  pub class-used : (k : ℕ) → k < 8 → 0 < widthAt r k → usedClass (classAt r k) ≡ true

@@ -14,11 +14,12 @@ use Rattle.laws.proofs.Tests.{holds-left}
 use Rattle.counts_rules.specs.Total.{validCode}
 use Rattle.words_rules.specs.Reading.{classBroken, codesBroken}
 use Rattle.words_rules.specs.declared.Bucket.{Bucket}
+use Rattle.words_rules.specs.Decoded.{widthAt}
 use Rattle.words_faults.proofs.codes_broken.Statement.{statement}
 use Rattle.words_faults.proofs.codes_broken.Tie as tie
 
 abbrev brokenAt : Bucket → ℕ → Bool
-brokenAt r k = classBroken (getD (r .widths) k 0) (getD (r .classes) k 0)
+brokenAt r k = classBroken (widthAt r k) (getD (r .classes) k 0)
 
 abbrev Inv-loop : tie.InvT-loop
 Inv-loop bucket k₀ k = (k ≤ 8) × ((i : ℕ) → i < k → brokenAt bucket i ≡ false)

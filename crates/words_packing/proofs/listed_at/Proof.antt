@@ -5,9 +5,9 @@ use mathlib.Core.Bool.{Bool, cond}
 use Prim.Native.Nat.{ℕ, suc}
 use native.Mathlib.Omega.{arith}
 use borrow.Author.Needs.{needs}
-use lib.ListN.{getD}
 use Rattle.words_packing.proofs.listed_at.Statement.{statement}
 use Rattle.words_packing.proofs.listed_at.Tie as tie
+use Rattle.words_rules.specs.Decoded.{widthAt}
 
 mul-result : tie.Need-mul-result
 mul-result c = search needs
@@ -27,12 +27,12 @@ element-copy-out-result-2 c = search needs
 returns : tie.Need-returns
 returns c =
     let a = c .before .before .args in
-    ap (λ (f : Bool). getD (a .t1 .widths) (cond f (a .k) (suc (a .k))) 0) (sym (c .before .if1 .taken))
+    ap (λ (f : Bool). widthAt (a .t1) (cond f (a .k) (suc (a .k)))) (sym (c .before .if1 .taken))
 
 returns-2 : tie.Need-returns-2
 returns-2 c =
     let a = c .before .before .args in
-    ap (λ (n : ℕ). getD (a .t1 .widths) n 0) {y = suc (a .k)} (omega arith) ∙ ap (λ (f : Bool). getD (a .t1 .widths) (cond f (a .k) (suc (a .k))) 0) (sym (c .before .if1 .left))
+    ap (λ (n : ℕ). widthAt (a .t1) n) {y = suc (a .k)} (omega arith) ∙ ap (λ (f : Bool). widthAt (a .t1) (cond f (a .k) (suc (a .k)))) (sym (c .before .if1 .left))
 
 pub listed-at-spec : {M : Type 1} → statement M
 listed-at-spec =

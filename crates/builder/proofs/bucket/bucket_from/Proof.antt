@@ -5,8 +5,8 @@ use Prim.Native.Nat.{suc, _+_, _-_, _≤_}
 use native.Mathlib.Numerals.{add-one}
 use native.Mathlib.Omega.{arith}
 use borrow.Author.Needs.{needs}
-use lib.ListN.{getD}
 use Rattle.laws.specs.Sums.{sum, prefixSum}
+use lib.ListN.{getD}
 use Rattle.build_rules.specs.Bucket.{bucketWidths}
 use Rattle.build_rules.proofs.WidthLaws.{count-some, count-small}
 use Rattle.build_rules.proofs.BucketLaws.{place-next, place-within, limit-bounds, sum-some, sum-within}

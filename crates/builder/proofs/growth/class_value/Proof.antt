@@ -3,7 +3,7 @@
 use mathlib.Core.Path.{_≡_, sym, ap, _∙_}
 use native.Mathlib.Omega.{arith}
 use borrow.Author.Needs.{needs}
-use Rattle.counts_rules.specs.Base.{base, usedClass}
+use Rattle.counts_rules.specs.Form.{base, usedClass}
 use Rattle.counts_rules.specs.Class.{classNumber, classValue}
 use Rattle.counts_rules.proofs.BaseLaws.{class-used}
 use Rattle.counts.specs.declared.Meaning.{Meaning}

@@ -11,7 +11,7 @@ use borrow.Author.Needs.{needs}
 use borrow.Author.Tests.{not-true, not-false}
 use Rattle.laws.specs.Sums.{partSum}
 use Rattle.laws.proofs.SumsLaws.{part-next}
-use Rattle.counts_rules.specs.Base.{limit}
+use Rattle.counts_rules.specs.Limit.{limit}
 use Rattle.counts_rules.specs.Class.{classValue}
 use Rattle.list_rules.specs.declared.Quality.{Quality}
 use Rattle.build_rules.specs.Width.{fitsAt}

@@ -7,7 +7,7 @@ use native.Mathlib.Omega.{arith}
 use borrow.Author.Tests.{lt-leb, le-leb}
 use lib.Dec.{leb}
 use Rattle.laws.proofs.Tests.{fails-left}
-use Rattle.counts_rules.specs.Base.{limit}
+use Rattle.counts_rules.specs.Limit.{limit}
 use Rattle.list_rules.specs.Limits.{maxQ}
 use Rattle.words_rules.specs.Limits.{maxWidth}
 use Rattle.list_rules.specs.declared.Quality.{Quality}

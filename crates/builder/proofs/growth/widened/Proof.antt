@@ -14,7 +14,7 @@ use lib.ListN.{getD}
 use Rattle.laws.specs.Sums.{partSum}
 use Rattle.laws.proofs.Tests.{both-left, both-right}
 use Rattle.laws.proofs.SumsLaws.{part-cons}
-use Rattle.counts_rules.specs.Base.{limit}
+use Rattle.counts_rules.specs.Limit.{limit}
 use Rattle.list_rules.specs.Limits.{maxQ}
 use Rattle.list_rules.specs.declared.Quality.{Quality}
 use Rattle.build_rules.proofs.WidthLaws.{count-small}

@@ -3,7 +3,7 @@
 use mathlib.Core.Path.{_≡_, sym, ap, _∙_}
 use native.Mathlib.Omega.{arith}
 use borrow.Author.Needs.{needs}
-use Rattle.counts_rules.specs.Base.{base}
+use Rattle.counts_rules.specs.Form.{base}
 use Rattle.counts_rules.specs.Class.{classNumber}
 use Rattle.counts_rules.proofs.BaseLaws.{close}
 use Rattle.counts.specs.declared.Meaning.{Meaning}

@@ -10,7 +10,7 @@ use borrow.Author.Tests.{not-true, not-false}
 use lib.ListN.{getD}
 use Rattle.laws.specs.Sums.{partSum}
 use Rattle.laws.proofs.SumsLaws.{part-le}
-use Rattle.counts_rules.specs.Base.{limit}
+use Rattle.counts_rules.specs.Limit.{limit}
 use Rattle.words_rules.specs.Limits.{maxWidth}
 use Rattle.check_rules.specs.declared.Sort.{Sort}
 use Rattle.check_rules.specs.declared.Verdict.the-variants.{Fails}

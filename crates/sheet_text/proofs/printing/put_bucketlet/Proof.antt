@@ -5,12 +5,10 @@ use Prim.Native.Nat.{suc}
 use native.Mathlib.Omega.{arith}
 use borrow.Author.Needs.{needs}
 use lib.ListN.{length}
-use Rattle.counts_rules.specs.Base.{base}
-use Rattle.counts_rules.specs.Class.{classNumber}
 use Rattle.counts.specs.declared.Meaning.{Meaning}
 use Rattle.counts.specs.Reply.{meaningReply}
 use Rattle.counts.proofs.CallLaws.{class-read}
-use Rattle.words_rules.specs.Decoded.{classAt}
+use Rattle.words_rules.specs.Decoded.{classAt, numberAt}
 use Rattle.words_rules.proofs.EntryLaws.{bucketlet-end}
 use Rattle.sheet_rules.proofs.SheetLaws.{empty-part, bucketlet-short}
 use Rattle.sheet_text.specs.Private.Printing.{Put}
@@ -48,7 +46,7 @@ enum-told c = search needs
 reply : (c : tie.After-number-of-class)
     → let r = meaningReply (c .number-of-class .result) in
     let a = c .before .before .before .before .args in
-    (r .refusal ≡ 0) × (r .value ≡ classNumber base (classAt (a .t1) (a .k)))
+    (r .refusal ≡ 0) × (r .value ≡ numberAt (a .t1) (a .k))
 reply c =
     let s = c .before .before .before .before in
     class-read (classAt (s .args .t1) (s .args .k)) _ (s .pre .0 .class-used (s .args .k) (s .pre .1) (omega arith)) (c .number-of-class .ensures .0)

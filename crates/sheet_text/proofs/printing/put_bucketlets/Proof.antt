@@ -3,9 +3,9 @@ use mathlib.Core.Path.{_≡_, subst, subst⁻¹}
 use Prim.Native.Nat.{ℕ, suc, _+_, _-_}
 use native.Mathlib.Omega.{arith}
 use borrow.Author.Needs.{needs}
-use lib.ListN.{getD}
 use Rattle.sheet_rules.specs.Sheet.{joined, bucketletPart}
 use Rattle.words_rules.proofs.EntryLaws.{bucketlet-end}
+use Rattle.words_rules.specs.Decoded.{widthAt}
 use Rattle.sheet_text.specs.Private.Printing.{Put}
 use Rattle.sheet_text.proofs.PrintLaws.{Some, none, some-more, some-room}
 use Rattle.sheet_text.proofs.printing.put_bucketlets.Statement.{statement}
@@ -51,7 +51,7 @@ loop-again c =
     let l = c .before .before .before .before .loop in
     let p = c .before .put-bucketlet in
     let more : l .k + 1 ≡ suc (l .k) = omega arith in
-    subst⁻¹ (Some (a .t1) (a .out .now) _ (a .from) (p .result) (l .start + getD (a .t1 .widths) (l .k) 0)) more
+    subst⁻¹ (Some (a .t1) (a .out .now) _ (a .from) (p .result) (l .start + widthAt (a .t1) (l .k))) more
     (some-more (a .t1) (a .out .now) (l .out) _ (a .from) (l .at) (p .result) (l .start) (l .k) (omega arith) (l .inv) (p .ensures))
 
 returns : tie.Need-returns Inv-loop μ-loop

@@ -1,0 +1,26 @@
+-- `counts::is_class` meets its contract. The three tests are those of the classes in use.
+-- Assumes nothing.
+use mathlib.Core.Path.{sym}
+use native.Mathlib.Omega.{arith}
+use borrow.Author.Tests.{ltb-true, ltb-false}
+use Rattle.laws.proofs.Tests.{agree}
+use Rattle.counts_rules.proofs.BaseLaws.{says-used}
+use Rattle.counts.proofs.CountLaws.{not-used}
+use Rattle.counts.proofs.is_class.Statement.{statement}
+use Rattle.counts.proofs.is_class.Tie as tie
+
+returns : tie.Need-returns
+returns c = sym (not-used (c .before .args .class) (λ h l n. omega arith))
+
+returns-2 : tie.Need-returns-2
+returns-2 c = sym (not-used (c .before .before .args .class) (λ h l n. n (omega arith)))
+
+returns-3 : tie.Need-returns-3
+returns-3 c =
+    let k = c .before .before .args .class in
+    agree _ _
+    (λ t. says-used k (omega arith) (omega (arith, ltb-true)) (λ e. omega arith))
+    (λ f. not-used k (λ h l n. omega (arith, ltb-false)))
+
+pub is-class-spec : {M : Type 1} → statement M
+is-class-spec = tie.close (tie.spec returns returns-2 returns-3)
