@@ -1,162 +1,18 @@
-// Calls the coding of counts on the examples of document 01 and on bad input, and prints for each what was expected and what came.
+// Calls the library on document 01's examples, on bad input and at the limits, and prints a line for each figure expected of a case.
 
-use counts::Coded;
-use counts::Meaning;
-use libc::STDOUT_FILENO;
-
-// What a call answered: a refusal's number, or 0 and the value.
-struct Reply {
-    refusal: u32,
-    value: u32,
-}
-
-fn coded(c: Coded) -> Reply {
-    match c {
-        Coded::Code(value) => Reply { refusal: 0, value },
-        Coded::Refused => Reply {
-            refusal: 16,
-            value: 0,
-        },
-    }
-}
-
-fn meant(m: Meaning) -> Reply {
-    match m {
-        Meaning::Number(value) => Reply { refusal: 0, value },
-        Meaning::Refused => Reply {
-            refusal: 17,
-            value: 0,
-        },
-    }
-}
-
-fn print_reply(r: Reply) {
-    if r.refusal == 0 {
-        io::print_decimal(STDOUT_FILENO, r.value as u64);
-    } else {
-        io::write_all(STDOUT_FILENO, b"refused ");
-        io::print_decimal(STDOUT_FILENO, r.refusal as u64);
-    }
-}
-
-fn report(call: &[u8], input: u32, expected: Reply, came: Reply) {
-    io::write_all(STDOUT_FILENO, call);
-    io::write_all(STDOUT_FILENO, b" ");
-    io::print_decimal(STDOUT_FILENO, input as u64);
-    io::write_all(STDOUT_FILENO, b": expected ");
-    print_reply(expected);
-    io::write_all(STDOUT_FILENO, b", came ");
-    print_reply(came);
-    if expected.refusal == came.refusal && expected.value == came.value {
-        io::write_all(STDOUT_FILENO, b", ok\n");
-    } else {
-        io::write_all(STDOUT_FILENO, b", WRONG\n");
-    }
-}
-
-fn answer(value: u32) -> Reply {
-    Reply { refusal: 0, value }
-}
-
-fn refusal(number: u32) -> Reply {
-    Reply {
-        refusal: number,
-        value: 0,
-    }
-}
-
-fn class_case(count: u32, expected: Reply) {
-    report(b"class of", count, expected, coded(counts::class_of(count)));
-}
-
-fn number_case(class: u32, expected: Reply) {
-    report(
-        b"number of class",
-        class,
-        expected,
-        meant(counts::number_of_class(class)),
-    );
-}
-
-fn code_case(total: u32, expected: Reply) {
-    report(
-        b"code of total",
-        total,
-        expected,
-        coded(counts::code_of_total(total)),
-    );
-}
-
-fn total_case(code: u32, expected: Reply) {
-    report(
-        b"number of code",
-        code,
-        expected,
-        meant(counts::number_of_total(code)),
-    );
-}
-
-fn classes() {
-    class_case(0, refusal(16));
-    class_case(1, answer(1));
-    class_case(2, answer(3));
-    class_case(5, answer(5));
-    class_case(10, answer(7));
-    class_case(11, answer(8));
-    class_case(100, answer(14));
-    class_case(819993059, answer(61));
-    class_case(819993060, answer(62));
-    class_case(1073741823, answer(62));
-    class_case(1073741824, refusal(16));
-    class_case(4294967295, refusal(16));
-}
-
-fn numbers() {
-    number_case(0, refusal(17));
-    number_case(1, answer(1));
-    number_case(2, refusal(17));
-    number_case(3, answer(2));
-    number_case(5, answer(4));
-    number_case(7, answer(8));
-    number_case(8, answer(12));
-    number_case(11, answer(34));
-    number_case(14, answer(93));
-    number_case(62, answer(970228872));
-    number_case(63, refusal(17));
-    number_case(64, refusal(17));
-    number_case(4294967295, refusal(17));
-}
-
-fn codes() {
-    code_case(0, refusal(16));
-    code_case(1, answer(32));
-    code_case(127, answer(4064));
-    code_case(128, answer(2049));
-    code_case(1000, answer(4003));
-    code_case(1073741823, answer(4087));
-    code_case(1073741824, refusal(16));
-    code_case(4294967295, refusal(16));
-}
-
-fn totals() {
-    total_case(0, refusal(17));
-    total_case(31, refusal(17));
-    total_case(32, answer(1));
-    total_case(33, refusal(17));
-    total_case(2017, refusal(17));
-    total_case(2049, answer(128));
-    total_case(2072, refusal(17));
-    total_case(4003, answer(1003));
-    total_case(4064, answer(127));
-    total_case(4087, answer(1068827891));
-    total_case(4096, refusal(17));
-    total_case(4128, refusal(17));
-    total_case(4294967295, refusal(17));
-}
+mod build_cases;
+mod check_cases;
+mod count_cases;
+mod estimate_cases;
+mod lists;
+mod print;
+mod reply;
+mod word_cases;
 
 fn main() {
-    classes();
-    numbers();
-    codes();
-    totals();
+    count_cases::run();
+    word_cases::run();
+    build_cases::run();
+    check_cases::run();
+    estimate_cases::run();
 }

@@ -1,67 +1,45 @@
-// Lists that the builder is given, and what it makes of them: what each is, the figure expected and the figure that came.
+// Lists that the builder is given, and what it makes of them.
 
+use super::lists::ONE_BUCKET;
+use super::lists::TENS;
+use super::lists::TENS_WORDS;
+use super::print::report;
+use super::reply::Reply;
+use super::reply::answer;
+use super::reply::refusal;
+use super::reply::report_reply;
 use builder::Built;
-use libc::STDOUT_FILENO;
-
-struct Reply {
-    refusal: u32,
-    words: u32,
-}
-
-fn write(text: &[u8]) {
-    io::write_all(STDOUT_FILENO, text);
-}
-
-fn report(what: &[u8], expected: u32, got: u32) {
-    write(what);
-    write(b": expected ");
-    io::print_decimal(STDOUT_FILENO, expected as u64);
-    write(b", got ");
-    io::print_decimal(STDOUT_FILENO, got as u64);
-    if expected == got {
-        write(b", ok\n");
-    } else {
-        write(b", WRONG\n");
-    }
-}
-
-fn count(n: usize) -> u32 {
-    if n < 100000 { n as u32 } else { 100000 }
-}
 
 // The old contents of a lent list.
 const OLD: u32 = 0xABABABAB;
 
-fn replied(built: Built) -> Reply {
+// The words lent: more than two buckets need.
+const LENT: usize = 16;
+
+fn build(freqs: &[u32], theta: u32, qn: u32, qd: u32, out: &mut [u32]) -> Reply {
+    let built = builder::build(freqs, theta, qn, qd, out);
     match built {
-        Built::Words(n) => Reply {
-            refusal: 0,
-            words: count(n),
-        },
-        Built::Refused(number) => Reply {
-            refusal: number,
-            words: 0,
-        },
+        Built::Words(n) => answer(n as u64),
+        Built::Refused(number) => refusal(number),
     }
 }
 
 // A list that is refused, or the number of words that come. The first word that is not written keeps its contents.
-fn case(what: &[u8], freqs: &[u32], theta: u32, qn: u32, qd: u32, refusal: u32, words: u32) {
-    let mut lent = [OLD; 16];
-    let got = replied(builder::build(freqs, theta, qn, qd, &mut lent));
-    report(what, refusal, got.refusal);
-    report(b"  words", words, got.words);
-    if refusal == 0 {
-        report(b"  the word past them", OLD, lent[9]);
+fn case(what: &[u8], freqs: &[u32], theta: u32, qn: u32, qd: u32, expected: Reply) {
+    let mut lent = [OLD; LENT];
+    let got = build(freqs, theta, qn, qd, &mut lent);
+    report_reply(what, b"  words", expected, got);
+    if expected.refusal == 0 {
+        report(b"  the word past them", OLD, lent[ONE_BUCKET]);
     } else {
         report(b"  the first word", OLD, lent[0]);
     }
 }
 
-// The nine words of a list of one bucket.
-fn list(what: &[u8], freqs: &[u32], theta: u32, qn: u32, qd: u32, words: [u32; 9]) {
-    let mut lent = [OLD; 16];
-    let got = replied(builder::build(freqs, theta, qn, qd, &mut lent));
+// The words of a list of one bucket.
+fn list(what: &[u8], freqs: &[u32], theta: u32, qn: u32, qd: u32, words: [u32; ONE_BUCKET]) {
+    let mut lent = [OLD; LENT];
+    let got = build(freqs, theta, qn, qd, &mut lent);
     report(what, 0, got.refusal);
     report(b"  word 0", words[0], lent[0]);
     report(b"  word 1", words[1], lent[1]);
@@ -72,7 +50,7 @@ fn list(what: &[u8], freqs: &[u32], theta: u32, qn: u32, qd: u32, words: [u32; 9
     report(b"  word 6", words[6], lent[6]);
     report(b"  word 7", words[7], lent[7]);
     report(b"  word 8", words[8], lent[8]);
-    report(b"  the word past them", OLD, lent[9]);
+    report(b"  the word past them", OLD, lent[ONE_BUCKET]);
 }
 
 // The widths of one bucket.
@@ -85,8 +63,8 @@ fn widths(
     bucket: usize,
     expected: [u32; 8],
 ) {
-    let mut lent = [OLD; 16];
-    let got = replied(builder::build(freqs, theta, qn, qd, &mut lent));
+    let mut lent = [OLD; LENT];
+    let got = build(freqs, theta, qn, qd, &mut lent);
     report(what, 0, got.refusal);
     let decoded = words::bucket_at(&lent, bucket);
     report(b"  width 0", expected[0], decoded.widths[0]);
@@ -100,24 +78,7 @@ fn widths(
 }
 
 fn examples() {
-    list(
-        b"four tens",
-        &[10, 10, 10, 10],
-        1,
-        3,
-        2,
-        [
-            4,
-            1,
-            0xC02,
-            1,
-            0x40000204,
-            0x8B000000,
-            0x80000500,
-            0xC0000000,
-            0xC0000000,
-        ],
-    );
+    list(b"four tens", &TENS, 1, 3, 2, TENS_WORDS);
     list(
         b"1 and 100",
         &[1, 100],
@@ -160,38 +121,42 @@ fn stored_q() {
 }
 
 fn limits_of_theta_and_q() {
-    let tens = [10u32, 10, 10, 10];
-    case(b"q 5/4", &tens, 1, 5, 4, 0, 9);
-    case(b"q 124/100", &tens, 1, 124, 100, 5, 0);
-    case(b"q 1000/1", &tens, 1, 1000, 1, 0, 9);
-    case(b"q 1001/1", &tens, 1, 1001, 1, 5, 0);
-    case(b"q 3/0", &tens, 1, 3, 0, 5, 0);
+    case(b"q 5/4", &TENS, 1, 5, 4, answer(9));
+    case(b"q 124/100", &TENS, 1, 124, 100, refusal(5));
+    case(b"q 1000/1", &TENS, 1, 1000, 1, answer(9));
+    case(b"q 1001/1", &TENS, 1, 1001, 1, refusal(5));
+    case(b"q 3/0", &TENS, 1, 3, 0, refusal(5));
     case(
         b"q of the largest numbers",
-        &tens,
+        &TENS,
         1,
         4294967295,
         4294967295,
-        5,
-        0,
+        refusal(5),
     );
-    case(b"theta 0", &tens, 0, 3, 2, 4, 0);
-    case(b"theta 0 and q 124/100", &tens, 0, 124, 100, 4, 0);
-    case(b"theta 1,048,575", &tens, 1048575, 3, 2, 0, 9);
-    case(b"theta 1,048,576", &tens, 1048576, 3, 2, 4, 0);
+    case(b"theta 0", &TENS, 0, 3, 2, refusal(4));
+    case(b"theta 0 and q 124/100", &TENS, 0, 124, 100, refusal(4));
+    case(b"theta 1,048,575", &TENS, 1048575, 3, 2, answer(9));
+    case(b"theta 1,048,576", &TENS, 1048576, 3, 2, refusal(4));
 }
 
 fn limits_of_the_list() {
-    case(b"an empty list and theta 0", &[], 0, 3, 2, 1, 0);
-    case(b"a frequency of 0 and theta 0", &[5, 0], 0, 3, 2, 2, 0);
+    case(b"an empty list and theta 0", &[], 0, 3, 2, refusal(1));
+    case(
+        b"a frequency of 0 and theta 0",
+        &[5, 0],
+        0,
+        3,
+        2,
+        refusal(2),
+    );
     case(
         b"a frequency of 0 and a large sum",
         &[4294967295, 0],
         1,
         3,
         2,
-        2,
-        0,
+        refusal(2),
     );
     case(
         b"a sum of 1,073,741,823",
@@ -199,34 +164,31 @@ fn limits_of_the_list() {
         1,
         3,
         2,
-        0,
-        9,
+        answer(9),
     );
-    case(b"one more", &[536870912, 536870912], 1, 3, 2, 3, 0);
-    case(b"the largest frequency", &[4294967295], 1, 3, 2, 3, 0);
-    case(b"65,537 entries", &[1; 65537], 1, 3, 2, 1, 0);
-    case(b"65,537 entries of 0", &[0; 65537], 1, 3, 2, 1, 0);
+    case(b"one more", &[536870912, 536870912], 1, 3, 2, refusal(3));
+    case(b"the largest frequency", &[4294967295], 1, 3, 2, refusal(3));
+    case(b"65,537 entries", &[1; 65537], 1, 3, 2, refusal(1));
+    case(b"65,537 entries of 0", &[0; 65537], 1, 3, 2, refusal(1));
 }
 
 // Four tens, whose histogram has nine words, with a list lent for it.
-fn lent(what: &[u8], out: &mut [u32], refusal: u32, words: u32) {
-    let got = replied(builder::build(&[10, 10, 10, 10], 1, 3, 2, out));
-    report(what, refusal, got.refusal);
-    report(b"  words", words, got.words);
+fn lent(what: &[u8], out: &mut [u32], expected: Reply) {
+    report_reply(what, b"  words", expected, build(&TENS, 1, 3, 2, out));
 }
 
 fn lengths() {
     let mut eight = [OLD; 8];
-    lent(b"eight words lent for nine", &mut eight, 6, 0);
+    lent(b"eight words lent for nine", &mut eight, refusal(6));
     report(b"  the first word", OLD, eight[0]);
     report(b"  the last word", OLD, eight[7]);
-    lent(b"no word lent", &mut [], 6, 0);
+    lent(b"no word lent", &mut [], refusal(6));
     let mut nine = [OLD; 9];
-    lent(b"nine words lent", &mut nine, 0, 9);
+    lent(b"nine words lent", &mut nine, answer(9));
     report(b"  the first word", 4, nine[0]);
     report(b"  the last word", 0xC0000000, nine[8]);
     let mut twelve = [OLD; 12];
-    lent(b"twelve words lent", &mut twelve, 0, 9);
+    lent(b"twelve words lent", &mut twelve, answer(9));
     report(b"  word 8", 0xC0000000, twelve[8]);
     report(b"  word 9", OLD, twelve[9]);
     report(b"  word 11", OLD, twelve[11]);
@@ -322,25 +284,21 @@ fn narrow_then_wide() {
     );
 }
 
+// The word that holds the flag.
+fn flag(what: &[u8], freqs: &[u32], expected: u32) {
+    let mut words = [OLD; ONE_BUCKET];
+    report(what, 0, build(freqs, 1, 2, 1, &mut words).refusal);
+    report(b"  word 4", expected, words[4]);
+}
+
 // The free bucketlet is the eighth up to a width of 511, and the first above.
 fn flags() {
     let tens = [10u32; 512];
-    let mut words = [OLD; 9];
-    report(
-        b"511 equal entries",
-        0,
-        replied(builder::build(&tens[..511], 1, 2, 1, &mut words)).refusal,
-    );
-    report(b"  word 4", 0x400003FF, words[4]);
-    report(
-        b"512 equal entries",
-        0,
-        replied(builder::build(&tens, 1, 2, 1, &mut words)).refusal,
-    );
-    report(b"  word 4", 0x40000000, words[4]);
+    flag(b"511 equal entries", &tens[..511], 0x400003FF);
+    flag(b"512 equal entries", &tens, 0x40000000);
 }
 
-fn main() {
+pub(crate) fn run() {
     examples();
     stored_q();
     limits_of_theta_and_q();
