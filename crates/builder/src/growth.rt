@@ -5,7 +5,7 @@ use counts::Meaning;
 use list_rules::Quality;
 ghost use mathlib.Core.Path.{_≡_};
 ghost use mathlib.Core.Bool.{cond, _&&_};
-ghost use Prim.Native.Nat.{suc, _-_, _*_, _^_, _≤_, _<_, max};
+ghost use Prim.Native.Nat.{suc, _-_, _*_, _^_, _≤_, _<_};
 ghost use lib.Dec.{ltb};
 ghost use Rattle.counts_rules.specs.Limit.{limit};
 ghost use Rattle.counts_rules.specs.Class.{classValue};
@@ -21,18 +21,6 @@ pub(crate) struct Ratio {
 pub(crate) struct Bounds {
     pub low: Ratio,
     pub up: Ratio,
-}
-
-fn wide(x: u32) -> u64
-    ensures { λ r. ⌜ r ≡ x ⌝ }
-{
-    x as u64
-}
-
-fn larger_of(a: u64, b: u64) -> u64
-    ensures { λ r. ⌜ r ≡ max a b ⌝ }
-{
-    if a < b { b } else { a }
 }
 
 // The greater of two fractions.
@@ -85,7 +73,7 @@ fn class_value(count: u64) -> u64
     let Meaning::Number(number) = counts::number_of_class(class) else {
         return 0;
     };
-    wide(number)
+    arithmetic::wide(number)
 }
 
 // The bounds with the ranges that end after w + 1 entries, where those of w entries are known. A range that splits into two with counts above
@@ -103,14 +91,14 @@ fn widened(freqs: &[u32], a: usize, w: usize, q: Quality, known: Bounds) -> Boun
     let mut i = end;
     while 0 < i {
         i -= 1;
-        count += wide(freqs[a + i]);
+        count += arithmetic::wide(freqs[a + i]);
         if splits(heavy, q.theta, count) {
             break;
         }
         heavy = first_heavy(heavy, q.theta, count);
         let n = (end - i) as u64;
         low = counted_of(low, q.theta, count, n);
-        up = greater_of(up, n, larger_of(least, q.qn * count));
+        up = greater_of(up, n, arithmetic::larger_of_wide(least, q.qn * count));
     }
     Bounds { low, up }
 }
@@ -139,7 +127,7 @@ pub(crate) fn grow(freqs: &[u32], a: usize, most: usize, q: Quality) -> usize
     let mut total: u64 = 0;
     let mut w: usize = 0;
     while w < most {
-        total += wide(freqs[a + w]);
+        total += arithmetic::wide(freqs[a + w]);
         bounds = widened(freqs, a, w, q, bounds);
         let next = w + 1;
         if !passes(q, bounds, class_value(total), next as u64) {

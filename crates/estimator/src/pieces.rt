@@ -4,7 +4,7 @@ use counts::Meaning;
 use estimate_rules::Fraction;
 ghost use mathlib.Core.Path.{_≡_};
 ghost use mathlib.Core.Bool.{true};
-ghost use Prim.Native.Nat.{_+_, _^_, _≤_, _<_, min, max};
+ghost use Prim.Native.Nat.{_+_, _^_, _≤_, _<_};
 ghost use Rattle.counts_rules.specs.Form.{base};
 ghost use Rattle.counts_rules.specs.Class.{classNumber};
 ghost use Rattle.counts_rules.specs.Total.{totalNumber, validCode};
@@ -14,12 +14,6 @@ ghost use Rattle.estimate_rules.specs.Fraction.{plus};
 ghost use Rattle.estimate_rules.specs.Exact.{inside, overlap, piece, bucketPiece, exact};
 ghost use Rattle.estimator.specs.Private.Adding.{Small, ClassIn, Addable};
 
-fn wide(x: u32) -> u64
-    ensures { λ r. ⌜ r ≡ x ⌝ }
-{
-    x as u64
-}
-
 // The number of a bucketlet's class, 0 of class 0.
 fn class_number(class: u32) -> u64
     requires { ⌜ ClassIn class ⌝ }
@@ -28,7 +22,7 @@ fn class_number(class: u32) -> u64
     let Meaning::Number(s) = counts::number_of_class(class) else {
         return 0;
     };
-    wide(s)
+    arithmetic::wide(s)
 }
 
 fn total_number(code: u32) -> u64
@@ -38,7 +32,7 @@ fn total_number(code: u32) -> u64
     let Meaning::Number(s) = counts::number_of_total(code) else {
         return 0;
     };
-    wide(s)
+    arithmetic::wide(s)
 }
 
 // Whether the range from x to y holds the span from a to e.
@@ -48,25 +42,13 @@ fn is_inside(x: u32, y: u32, a: u32, e: u32) -> bool
     x <= a && e <= y
 }
 
-fn larger_of(a: u32, b: u32) -> u32
-    ensures { λ r. ⌜ r ≡ max a b ⌝ }
-{
-    if a < b { b } else { a }
-}
-
-fn smaller_of(a: u32, b: u32) -> u32
-    ensures { λ r. ⌜ r ≡ min a b ⌝ }
-{
-    if a < b { a } else { b }
-}
-
 // How many entries of the span from a to e the range from x to y holds.
 fn overlap_of(x: u32, y: u32, a: u32, e: u32) -> u32
     ensures { λ r. ⌜ r ≡ overlap x y a e ⌝ }
 {
-    let from = larger_of(x, a);
-    let to = smaller_of(y, e);
-    if to < from { 0 } else { to - from }
+    let from = arithmetic::larger_of(x, a);
+    let to = arithmetic::smaller_of(y, e);
+    arithmetic::left_of(to, from)
 }
 
 fn plus(e: Fraction, f: Fraction) -> Fraction
@@ -102,8 +84,8 @@ fn piece_of(x: u32, y: u32, a: u32, w: u32, s: u64) -> Fraction
     }
     Fraction {
         whole: 0,
-        top: wide(n) * s,
-        bottom: wide(w),
+        top: arithmetic::wide(n) * s,
+        bottom: arithmetic::wide(w),
     }
 }
 

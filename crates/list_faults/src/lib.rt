@@ -3,31 +3,23 @@
 ghost use mathlib.Core.Path.{_≡_};
 ghost use Prim.Native.Nat.{_≤_};
 ghost use lib.ListN.{length};
-ghost use Rattle.laws.specs.Between.{between};
 ghost use Rattle.laws.specs.Sums.{sum};
 ghost use Rattle.laws.specs.Refusal.{refusal};
 ghost use Rattle.list_rules.specs.Limits.{maxEntries, entriesGood, thetaGood, qGood};
 ghost use Rattle.list_rules.specs.Frequencies.{zeroFault, listFault};
 ghost use Rattle.list_rules.specs.Quality.{qualitySentences, inputSentences};
 
-// Whether a number is one of those from `least` to `most`.
-pub fn is_between(least: u32, most: u32, n: u32) -> bool
-    ensures { λ r. ⌜ r ≡ between least most n ⌝ }
-{
-    least <= n && n <= most
-}
-
 // Of d, the number of entries.
 pub fn entries_good(entries: u32) -> bool
     ensures { λ r. ⌜ r ≡ entriesGood entries ⌝ }
 {
-    is_between(1, 65536, entries)
+    arithmetic::is_between(1, 65536, entries)
 }
 
 pub fn theta_good(theta: u32) -> bool
     ensures { λ r. ⌜ r ≡ thetaGood theta ⌝ }
 {
-    is_between(1, 1048575, theta)
+    arithmetic::is_between(1, 1048575, theta)
 }
 
 // qn and qd are tested before they are multiplied.
@@ -41,12 +33,6 @@ pub fn q_good(qn: u32, qd: u32) -> bool
         return false;
     }
     5 * qd <= 4 * qn
-}
-
-fn wide(x: u32) -> u64
-    ensures { λ r. ⌜ r ≡ x ⌝ }
-{
-    x as u64
 }
 
 // Whether a frequency is 0.
@@ -71,7 +57,7 @@ fn sum_of(freqs: &[u32]) -> u64
     let mut sum: u64 = 0;
     let mut i: usize = 0;
     while i < freqs.len() {
-        sum += wide(freqs[i]);
+        sum += arithmetic::wide(freqs[i]);
         i += 1;
     }
     sum

@@ -110,8 +110,7 @@ pub fn span_at(words: &[u32], b: usize) -> u32
     ensures { λ r. ⌜ r ≡ span (now (words .entry)) b ⌝ }
 {
     let start = start_at(words, b);
-    let end = end_at(words, b);
-    if end < start { 0 } else { end - start }
+    arithmetic::left_of(end_at(words, b), start)
 }
 
 // Bucket b, decoded.

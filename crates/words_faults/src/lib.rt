@@ -19,7 +19,7 @@ pub fn head_good(head: Head) -> bool
     if !list_faults::q_good(head.qn, head.qd) {
         return false;
     }
-    list_faults::is_between(1, head.entries, head.buckets)
+    arithmetic::is_between(1, head.entries, head.buckets)
 }
 
 // Whether one of a bucket's words has a wrong kind or a set bit outside its fields: the three bits below the kind of the last two are 0.

@@ -81,13 +81,6 @@ fn with_free(flag: bool, free: u32, l: [u32; 7]) -> [u32; 8]
     }
 }
 
-// What is left of a after b; nothing where b is larger.
-fn left_of(a: u32, b: u32) -> u32
-    ensures { λ r. ⌜ r ≡ a - b ⌝ }
-{
-    if a < b { 0 } else { a - b }
-}
-
 // The bucket of these words that ends at an entry. Where the listed widths exceed its span the free width is 0.
 pub fn decode(packed: [u32; BUCKET_WORDS], end: u32) -> Bucket
     ensures { λ r. ⌜ r ≡ decode packed end ⌝ }
@@ -95,7 +88,7 @@ pub fn decode(packed: [u32; BUCKET_WORDS], end: u32) -> Bucket
     let listed = listed_of(packed);
     let start = start_of(packed[0]);
     let flag = field_of(packed[0], 9, 9) == 1;
-    let free = left_of(left_of(end, start), sum_of(listed));
+    let free = arithmetic::left_of(arithmetic::left_of(end, start), sum_of(listed));
     Bucket {
         widths: with_free(flag, free, listed),
         classes: classes_of(packed),

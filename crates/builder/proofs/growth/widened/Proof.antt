@@ -126,11 +126,11 @@ counted-of-requires c κs =
     let n : c .before .before .before .before .before .before .before .before .before .before .before .args .w + 1 - (l .i - 1) ≤ 4095 = omega (arith, p .narrow) in
     (omega (arith, mul-le-mul (l .inv .bounding .low-top) n), omega (arith, mul-le-mul (small (c .before .before .before)) (l .inv .bounding .low-bottom)))
 
-mul-larger-of : tie.Need-mul-larger-of Inv-loop μ-loop
-mul-larger-of c = omega (arith, mul-le-mul (c .before .before .before .before .before .before .before .before .before .before .before .before .before .pre .growable .sound .qn-small) (small (c .before .before .before .before .before)))
+mul-larger-of-wide : tie.Need-mul-larger-of-wide Inv-loop μ-loop
+mul-larger-of-wide c = omega (arith, mul-le-mul (c .before .before .before .before .before .before .before .before .before .before .before .before .before .pre .growable .sound .qn-small) (small (c .before .before .before .before .before)))
 
-larger-of-requires : tie.Need-larger-of-requires Inv-loop μ-loop
-larger-of-requires c κs = search needs
+larger-of-wide-requires : tie.Need-larger-of-wide-requires Inv-loop μ-loop
+larger-of-wide-requires c κs = search needs
 
 greater-of-requires : tie.Need-greater-of-requires Inv-loop μ-loop
 greater-of-requires c κs =
@@ -138,8 +138,8 @@ greater-of-requires c κs =
     let p = c .before .before .before .before .before .before .before .before .before .before .before .before .before .before .pre .growable in
     let s = p .sound in
     let n : c .before .before .before .before .before .before .before .before .before .before .before .before .before .before .args .w + 1 - (l .i - 1) ≤ 4095 = omega (arith, p .narrow) in
-    let cap : c .larger-of .result ≤ maxQ * limit =
-    omega (arith, c .larger-of .ensures, mul-le-mul (s .qn-small) (small (c .before .before .before .before .before .before)), mul-le-mul (s .qd-small) (s .theta-small)) in
+    let cap : c .larger-of-wide .result ≤ maxQ * limit =
+    omega (arith, c .larger-of-wide .ensures, mul-le-mul (s .qn-small) (small (c .before .before .before .before .before .before)), mul-le-mul (s .qd-small) (s .theta-small)) in
     (omega (arith, mul-le-mul (l .inv .bounding .up-top) cap), omega (arith, mul-le-mul n (l .inv .bounding .up-bottom)))
 
 loop-less : tie.Need-loop-less Inv-loop μ-loop
@@ -163,7 +163,7 @@ loop-again c =
       heavy-from = rw (c .before .before .before .before .first-heavy .ensures) (heavy-step q fs a sound (suc w) (l .i - 1) (l .heavy) _ (omega (arith, l .inv .start)) known heavy);
       bounding =
           bounding-step q fs a sound (suc w) (l .i - 1) (omega (arith, l .inv .start)) (s .pre .growable .narrow) (l .low) (l .up) _ _ _ _ _ known (omega arith)
-          (c .before .larger-of .ensures) (c .before .before .before .counted-of .ensures) (c .greater-of .ensures)
+          (c .before .larger-of-wide .ensures) (c .before .before .before .counted-of .ensures) (c .greater-of .ensures)
           (after (λ (i : ℕ). Bounding q fs a (suc w) i (bounds (l .low) (l .up))) (l .i) (omega arith) (l .inv .bounding));
     }
 
@@ -208,8 +208,8 @@ widened-spec =
     first-heavy-requires
     sub-n
     counted-of-requires
-    mul-larger-of
-    larger-of-requires
+    mul-larger-of-wide
+    larger-of-wide-requires
     greater-of-requires
     loop-less
     loop-again

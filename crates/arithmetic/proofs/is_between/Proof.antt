@@ -1,11 +1,11 @@
--- `list_faults::is_between` meets its contract, by the two tests.
+-- `arithmetic::is_between` meets its contract, by the two tests.
 -- Assumes nothing.
 use native.Mathlib.Omega.{arith}
 use borrow.Author.Tests.{leb-true, leb-false}
 use Rattle.laws.proofs.Tests.{is-false, agree}
 use Rattle.laws.proofs.BetweenLaws.{within, is-within}
-use Rattle.list_faults.proofs.is_between.Statement.{statement}
-use Rattle.list_faults.proofs.is_between.Tie as tie
+use Rattle.arithmetic.proofs.is_between.Statement.{statement}
+use Rattle.arithmetic.proofs.is_between.Tie as tie
 
 returns : tie.Need-returns
 returns c =
