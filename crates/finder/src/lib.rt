@@ -1,5 +1,7 @@
 // The bucket of an entry: the place of its words in the caller's own list, and those words themselves.
 
+use words_rules::BUCKET_WORDS;
+use words_rules::HEAD_WORDS;
 ghost use mathlib.Core.Path.{_≡_};
 ghost use Prim.Native.Nat.{_+_, _*_, _<_};
 ghost use Rattle.words_rules.specs.Words.{entries};
@@ -54,7 +56,7 @@ pub fn find_place(words: &[u32], entry: u32) -> Place
     if number != 0 {
         return Place::Refused(number);
     }
-    Place::At(words_rules::HEAD_WORDS + words_rules::BUCKET_WORDS * bucket_of(words, entry))
+    Place::At(HEAD_WORDS + BUCKET_WORDS * bucket_of(words, entry))
 }
 
 // The words of the entry's bucket; the empty part at the list's start where find_fault gives a number. Either begins in the caller's own
@@ -66,6 +68,6 @@ pub fn find(words: &[u32], entry: u32) -> &[u32]
     let Place::At(at) = find_place(words, entry) else {
         return &words[0..0];
     };
-    let end = at + words_rules::BUCKET_WORDS;
+    let end = at + BUCKET_WORDS;
     &words[at..end]
 }

@@ -1,5 +1,7 @@
 // Whether a list of words is a histogram: sentences 7 to 12, each tested over all buckets before the next.
 
+use words_rules::BUCKET_WORDS;
+use words_rules::HEAD_WORDS;
 ghost use mathlib.Core.Path.{_≡_};
 ghost use Rattle.words_rules.specs.Reading.{headFault, lengthFault, wordFault, startFault, widthFault, codeFault, readFault};
 
@@ -7,7 +9,7 @@ ghost use Rattle.words_rules.specs.Reading.{headFault, lengthFault, wordFault, 
 fn head_fault(words: &[u32]) -> bool
     ensures { λ r. ⌜ r ≡ headFault (now (words .entry)) ⌝ }
 {
-    if words.len() < words_rules::HEAD_WORDS {
+    if words.len() < HEAD_WORDS {
         return true;
     }
     if words::word_at(words, 2) >> 20 != 0 {
@@ -20,9 +22,7 @@ fn head_fault(words: &[u32]) -> bool
 fn length_fault(words: &[u32]) -> bool
     ensures { λ r. ⌜ r ≡ lengthFault (now (words .entry)) ⌝ }
 {
-    words.len()
-        != words_rules::HEAD_WORDS
-            + words_rules::BUCKET_WORDS * (words::bucket_count(words) as usize)
+    words.len() != HEAD_WORDS + BUCKET_WORDS * (words::bucket_count(words) as usize)
 }
 
 // 9
