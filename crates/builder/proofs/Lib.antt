@@ -1,5 +1,2 @@
-mod GrowthLaws
-mod BoundLaws
-mod GrowLaws
 mod LayLaws
 mod FillLaws

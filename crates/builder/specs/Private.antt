@@ -1,3 +1,2 @@
-pub mod Growing
 pub mod Laying
 pub mod Filling

@@ -1,5 +1,7 @@
 // The width of a bucketlet: grown an entry at a time, while the bounds on its number over its width hold.
 
+use build_bounds::Bounds;
+use build_bounds::Ratio;
 use counts::Coded;
 use counts::Meaning;
 use list_rules::Quality;
@@ -10,20 +12,9 @@ ghost use lib.Dec.{ltb};
 ghost use Rattle.counts_rules.specs.Limit.{limit};
 ghost use Rattle.counts_rules.specs.Class.{classValue};
 ghost use Rattle.build_rules.specs.Width.{width};
-ghost use Rattle.builder.specs.Private.Growing.{Growable, Widenable, Bounding, Testable, greater, counted, passes};
+ghost use Rattle.build_bounds.specs.Private.Growing.{Growable, Widenable, Bounding, Testable, greater, counted, passes};
 
-pub(crate) struct Ratio {
-    pub top: u64,
-    pub bottom: u64,
-}
-
-// The greatest count/length and the greatest length/cap of the ranges looked at.
-pub(crate) struct Bounds {
-    pub low: Ratio,
-    pub up: Ratio,
-}
-
-// The greater of two fractions.
+// The greater of two ratios.
 fn greater_of(p: Ratio, top: u64, bottom: u64) -> Ratio
     requires { ⌜ (p .top * bottom < 2 ^ 64) × (top * p .bottom < 2 ^ 64) ⌝ }
     ensures { λ r. ⌜ r ≡ greater p top bottom ⌝ }
@@ -35,7 +26,7 @@ fn greater_of(p: Ratio, top: u64, bottom: u64) -> Ratio
     }
 }
 
-// The greater of two fractions, if the count is above theta.
+// The greater of two ratios, if the count is above theta.
 fn counted_of(p: Ratio, theta: u64, count: u64, n: u64) -> Ratio
     requires { ⌜ (p .top * n < 2 ^ 64) × (count * p .bottom < 2 ^ 64) ⌝ }
     ensures { λ r. ⌜ r ≡ counted p theta count n ⌝ }

@@ -5,7 +5,7 @@ use native.Mathlib.Omega.{arith}
 use borrow.Author.Needs.{needs}
 use borrow.Author.Tests.{lt-ltb, le-ltb}
 use Rattle.laws.proofs.Tests.{chosen, not-chosen}
-use Rattle.builder.specs.Private.Growing.{greater}
+use Rattle.build_bounds.specs.Private.Growing.{greater}
 use Rattle.builder.proofs.growth.counted_of.Statement.{statement}
 use Rattle.builder.proofs.growth.counted_of.Tie as tie
 

@@ -16,10 +16,10 @@ use Rattle.counts_rules.specs.Class.{classValue}
 use Rattle.list_rules.specs.declared.Quality.{Quality}
 use Rattle.build_rules.specs.Width.{fitsAt}
 use Rattle.build_rules.proofs.WidthLaws.{value-small, count-some, count-small}
-use Rattle.builder.specs.declared.growth.Bounds.{Bounds}
-use Rattle.builder.specs.Private.Growing.{Bounding, passes}
-use Rattle.builder.proofs.BoundLaws.{bounding-none}
-use Rattle.builder.proofs.GrowLaws.{test-fits, width-is}
+use Rattle.build_bounds.specs.declared.Bounds.{Bounds}
+use Rattle.build_bounds.specs.Private.Growing.{Bounding, passes}
+use Rattle.build_bounds.proofs.BoundLaws.{bounding-none}
+use Rattle.build_bounds.proofs.GrowLaws.{test-fits, width-is}
 use Rattle.builder.proofs.growth.grow.Statement.{statement}
 use Rattle.builder.proofs.growth.grow.Tie as tie
 

@@ -11,8 +11,8 @@ use Rattle.counts_rules.specs.Limit.{limit}
 use Rattle.list_rules.specs.Limits.{maxQ}
 use Rattle.words_rules.specs.Limits.{maxWidth}
 use Rattle.list_rules.specs.declared.Quality.{Quality}
-use Rattle.builder.specs.declared.growth.Bounds.{Bounds}
-use Rattle.builder.specs.Private.Growing.{Testable}
+use Rattle.build_bounds.specs.declared.Bounds.{Bounds}
+use Rattle.build_bounds.specs.Private.Growing.{Testable}
 use Rattle.builder.proofs.growth.passes.Statement.{statement}
 use Rattle.builder.proofs.growth.passes.Tie as tie
 

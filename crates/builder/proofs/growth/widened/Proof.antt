@@ -18,9 +18,9 @@ use Rattle.counts_rules.specs.Limit.{limit}
 use Rattle.list_rules.specs.Limits.{maxQ}
 use Rattle.list_rules.specs.declared.Quality.{Quality}
 use Rattle.build_rules.proofs.WidthLaws.{count-small}
-use Rattle.builder.specs.declared.growth.Ratio.{Ratio}
-use Rattle.builder.specs.Private.Growing.{rangeCount, Bounding}
-use Rattle.builder.proofs.BoundLaws.{HeavyFrom, bounds, heavy-none, heavy-step, heavy-le, bounding-row, bounding-step, bounding-split}
+use Rattle.build_bounds.specs.declared.Ratio.{Ratio}
+use Rattle.build_bounds.specs.Private.Growing.{rangeCount, Bounding}
+use Rattle.build_bounds.proofs.BoundLaws.{HeavyFrom, bounds, heavy-none, heavy-step, heavy-le, bounding-row, bounding-step, bounding-split}
 use Rattle.builder.proofs.growth.widened.Statement.{statement}
 use Rattle.builder.proofs.growth.widened.Tie as tie
 

@@ -17,9 +17,9 @@ use Rattle.fit.proofs.FitLaws.{says-near}
 use Rattle.list_rules.specs.Private.Sound.{Sound}
 use Rattle.build_rules.specs.Width.{fitsAt, width}
 use Rattle.build_rules.proofs.WidthLaws.{count-some, count-small, value-near}
-use Rattle.builder.specs.declared.growth.Bounds.{Bounds}
-use Rattle.builder.specs.Private.Growing.{Bounding, passes}
-use Rattle.builder.proofs.GrowthLaws.{fits-tests, tests-fit}
+use Rattle.build_bounds.specs.declared.Bounds.{Bounds}
+use Rattle.build_bounds.specs.Private.Growing.{Bounding, passes}
+use Rattle.build_bounds.proofs.GrowthLaws.{fits-tests, tests-fit}
 
 module _ (q : Quality) (fs : List ℕ) (a : ℕ) (sound : Sound fs q) where
   pub test-fits : (w s : ℕ) (b : Bounds) → 1 ≤ w → a + w ≤ length fs → s ≡ classValue (partSum a w fs) → Bounding q fs a w 0 b

@@ -18,7 +18,7 @@ use Rattle.laws.proofs.SumsLaws.{part-add, part-within}
 use Rattle.laws.specs.Private.Greatest.{Greatest}
 use Rattle.laws.proofs.GreatestLaws.{Plus, of-none, of-greater, of-smaller, of-spread}
 use Rattle.list_rules.specs.declared.Quality.{Quality}
-use Rattle.builder.specs.Private.Growing.{Seen, rangeCount, rangeLength, rangeCap, HeavySeen, KeptBy}
+use Rattle.build_bounds.specs.Private.Growing.{Seen, rangeCount, rangeLength, rangeCap, HeavySeen, KeptBy}
 use Rattle.fit.specs.Fit.{near, fits, rangesFit, bucketletFits}
 use Rattle.fit.proofs.FitLaws.{Bounded, small-fits, fits-bounded, bounded-fits, heavy-cap}
 

@@ -13,8 +13,8 @@ use Rattle.list_rules.specs.Limits.{maxQ}
 use Rattle.words_rules.specs.Limits.{maxWidth}
 use Rattle.list_rules.specs.declared.Quality.{Quality}
 use Rattle.list_rules.specs.Private.Sound.{Sound}
-use Rattle.builder.specs.declared.growth.Ratio.{Ratio}
-use Rattle.builder.specs.declared.growth.Bounds.{Bounds}
+use Rattle.build_bounds.specs.declared.Ratio.{Ratio}
+use Rattle.build_bounds.specs.declared.Bounds.{Bounds}
 
 abbrev pub ratio : ℕ → ℕ → Ratio
 ratio t b = record { top = t; bottom = b }

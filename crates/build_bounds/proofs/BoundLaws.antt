@@ -17,11 +17,11 @@ use Rattle.list_rules.specs.Limits.{maxQ}
 use Rattle.words_rules.specs.Limits.{maxWidth}
 use Rattle.list_rules.specs.declared.Quality.{Quality}
 use Rattle.build_rules.proofs.WidthLaws.{count-small}
-use Rattle.builder.specs.declared.growth.Ratio.{Ratio}
-use Rattle.builder.specs.declared.growth.Bounds.{Bounds}
-use Rattle.builder.specs.Private.Growing.{ratio, greater, counted, Seen, rangeCount, rangeLength, rangeCap, HeavySeen, Bounding}
+use Rattle.build_bounds.specs.declared.Ratio.{Ratio}
+use Rattle.build_bounds.specs.declared.Bounds.{Bounds}
+use Rattle.build_bounds.specs.Private.Growing.{ratio, greater, counted, Seen, rangeCount, rangeLength, rangeCap, HeavySeen, Bounding}
 use Rattle.list_rules.specs.Private.Sound.{Sound}
-use Rattle.builder.proofs.GrowthLaws.{kept-none, kept-row, kept-split, lower-light, lower-greater, lower-smaller, upper-greater, upper-smaller}
+use Rattle.build_bounds.proofs.GrowthLaws.{kept-none, kept-row, kept-split, lower-light, lower-greater, lower-smaller, upper-greater, upper-smaller}
 
 abbrev pub bounds : Ratio → Ratio → Bounds
 bounds low up = record { low = low; up = up }
