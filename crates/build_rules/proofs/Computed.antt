@@ -15,9 +15,9 @@ pub worked : Worked
 unfolding first largest root each classOf classNumber highestBit shift bits totalCode encode rangesFit bucketletFits fitsAt width widthsFrom bucketWidths classesFrom bucketFrom bucketsFrom bucketWordsOf words
 worked =
     record {
-      tens = refl;
+      tens-words = refl;
       class-11 = refl;
-      pair = refl;
+      pair-words = refl;
       theta-99 = refl;
       theta-100 = refl;
       not-average = refl;

@@ -4,9 +4,10 @@ use mathlib.Core.Path.{_≡_}
 use mathlib.Core.Bool.{true, false}
 use mathlib.Core.List.{List, [], _∷_}
 use Prim.Native.Nat.{ℕ}
-use lib.ListN.{length, drop}
+use lib.ListN.{length}
 use Rattle.counts_rules.specs.Form.{base}
 use Rattle.counts_rules.specs.Class.{classNumber}
+use Rattle.words_rules.specs.Worked.{tens, pair}
 use Rattle.list_rules.specs.declared.Quality.{Quality}
 use Rattle.build_rules.specs.Bucket.{firstFree, limitsOf, bucketWidths}
 use Rattle.build_rules.specs.Words.{words}
@@ -17,11 +18,9 @@ abbrev pub firstWidths : Quality → List ℕ → List ℕ
 firstWidths q fs = bucketWidths q fs (length fs) 0
 
 pub record Worked : Type 0 where
-  pub tens :
-      words (quality 1 3 2) (10 ∷ 10 ∷ 10 ∷ 10 ∷ [])
-      ≡ 4 ∷ 1 ∷ 0xC02 ∷ 1 ∷ 0x40000204 ∷ 0x8B000000 ∷ 0x80000500 ∷ 0xC0000000 ∷ 0xC0000000 ∷ []
+  pub tens-words : words (quality 1 3 2) (10 ∷ 10 ∷ 10 ∷ 10 ∷ []) ≡ tens
   pub class-11 : classNumber base 11 ≡ 34
-  pub pair : drop 4 (words (quality 1 3 2) (1 ∷ 100 ∷ [])) ≡ 0x40000201 ∷ 0x81380000 ∷ 0x80000CA0 ∷ 0xC0040000 ∷ 0xC0000000 ∷ []
+  pub pair-words : words (quality 1 3 2) (1 ∷ 100 ∷ []) ≡ pair
   -- with theta 99 still two bucketlets; with theta 100, one
   pub theta-99 : firstWidths (quality 99 3 2) (1 ∷ 100 ∷ []) ≡ 1 ∷ 1 ∷ 0 ∷ 0 ∷ 0 ∷ 0 ∷ 0 ∷ 0 ∷ []
   pub theta-100 : firstWidths (quality 100 3 2) (1 ∷ 100 ∷ []) ≡ 2 ∷ 0 ∷ 0 ∷ 0 ∷ 0 ∷ 0 ∷ 0 ∷ 0 ∷ []

@@ -19,12 +19,12 @@ bucket start width class total =
     startWord start true width ∷ classWord class 0 0 0 0 ∷ totalWord 0 0 0 (total * 32) ∷ widthWord 0 0 0 ∷ widthWord 0 0 0 ∷ []
 
 -- a histogram of one bucketlet
-abbrev pub one : ℕ → ℕ → ℕ → ℕ → ℕ → ℕ → List ℕ
-one d theta qn qd class total = heads d theta qn qd 1 ++ bucket 0 d class total
+abbrev pub oneBucket : ℕ → ℕ → ℕ → ℕ → ℕ → ℕ → List ℕ
+oneBucket d theta qn qd class total = heads d theta qn qd 1 ++ bucket 0 d class total
 
 -- and of two buckets, each of one bucketlet of two entries
-abbrev pub two : ℕ → ℕ → ℕ → ℕ → List ℕ
-two class₀ total₀ class₁ total₁ = heads 4 100 3 2 2 ++ bucket 0 2 class₀ total₀ ++ bucket 2 2 class₁ total₁
+abbrev pub twoBuckets : ℕ → ℕ → ℕ → ℕ → List ℕ
+twoBuckets class₀ total₀ class₁ total₁ = heads 4 100 3 2 2 ++ bucket 0 2 class₀ total₀ ++ bucket 2 2 class₁ total₁
 
 abbrev pub twos : List ℕ
 twos = 2 ∷ 2 ∷ 2 ∷ 2 ∷ []
@@ -34,34 +34,34 @@ pub record Worked : Type 0 where
   -- the whole bucketlet comes before 3 to 4
   pub tens-hundred : checkReply (10 ∷ 10 ∷ 10 ∷ 100 ∷ []) tens ≡ record { refusal = 0; accepted = false; sort = 1; start = 0; end = 4 }
   -- by start, though 1 to 2 fails and ends earlier
-  pub whole-before : checkReply (5 ∷ 1 ∷ 2 ∷ 2 ∷ 1 ∷ []) (one 5 1 3 2 9 11) ≡ failedAnswer 1 0 5
+  pub whole-before : checkReply (5 ∷ 1 ∷ 2 ∷ 2 ∷ 1 ∷ []) (oneBucket 5 1 3 2 9 11) ≡ failedAnswer 1 0 5
   -- and then by end, the whole being good
-  pub first-end : checkReply (5 ∷ 5 ∷ 5 ∷ 9 ∷ 1 ∷ 2 ∷ []) (one 6 1 5 4 10 27) ≡ failedAnswer 2 0 4
+  pub first-end : checkReply (5 ∷ 5 ∷ 5 ∷ 9 ∷ 1 ∷ 2 ∷ []) (oneBucket 6 1 5 4 10 27) ≡ failedAnswer 2 0 4
   -- no range from 0 fails; 2 to 4 does too
-  pub later-start : checkReply (10 ∷ 10 ∷ 10 ∷ 40 ∷ []) (one 4 1 3 2 12 70) ≡ failedAnswer 2 1 4
-  pub one-entry : checkReply (10 ∷ []) (one 1 1 3 2 9 10) ≡ failedAnswer 1 0 1
+  pub later-start : checkReply (10 ∷ 10 ∷ 10 ∷ 40 ∷ []) (oneBucket 4 1 3 2 12 70) ≡ failedAnswer 2 1 4
+  pub one-entry : checkReply (10 ∷ []) (oneBucket 1 1 3 2 9 10) ≡ failedAnswer 1 0 1
   -- theta excuses neither a whole bucketlet nor a total
-  pub small-whole : checkReply (2 ∷ 2 ∷ []) (one 2 100 3 2 9 4) ≡ failedAnswer 1 0 2
-  pub small-total : checkReply (2 ∷ 2 ∷ []) (one 2 100 3 2 5 9) ≡ failedAnswer 3 0 2
+  pub small-whole : checkReply (2 ∷ 2 ∷ []) (oneBucket 2 100 3 2 9 4) ≡ failedAnswer 1 0 2
+  pub small-total : checkReply (2 ∷ 2 ∷ []) (oneBucket 2 100 3 2 5 9) ≡ failedAnswer 3 0 2
   -- it is held against the estimate, not rounded, and not against the count alone
-  pub large-estimate : checkReply (20 ∷ 12 ∷ 3 ∷ []) (one 3 5 2 1 11 35) ≡ failedAnswer 2 2 3
-  pub unrounded : checkReply (4 ∷ 3 ∷ 1 ∷ []) (one 3 2 2 1 7 8) ≡ failedAnswer 2 2 3
+  pub large-estimate : checkReply (20 ∷ 12 ∷ 3 ∷ []) (oneBucket 3 5 2 1 11 35) ≡ failedAnswer 2 2 3
+  pub unrounded : checkReply (4 ∷ 3 ∷ 1 ∷ []) (oneBucket 3 2 2 1 7 8) ≡ failedAnswer 2 2 3
   -- and against the count, not the estimate alone
-  pub large-count : checkReply (4 ∷ 1 ∷ 4 ∷ 1 ∷ []) (one 4 7 5 4 7 10) ≡ failedAnswer 2 0 3
+  pub large-count : checkReply (4 ∷ 1 ∷ 4 ∷ 1 ∷ []) (oneBucket 4 7 5 4 7 10) ≡ failedAnswer 2 0 3
   -- an estimate of theta itself is small, and one above is not; so is a count
-  pub theta-estimate : checkReply (1 ∷ 1 ∷ 2 ∷ 2 ∷ []) (one 4 4 3 2 7 6) ≡ acceptedAnswer
-  pub above-estimate : checkReply (1 ∷ 1 ∷ 2 ∷ 2 ∷ []) (one 4 3 3 2 7 6) ≡ failedAnswer 2 0 2
-  pub theta-count : checkReply (1 ∷ 7 ∷ []) (one 2 7 3 2 7 8) ≡ acceptedAnswer
-  pub above-count : checkReply (1 ∷ 7 ∷ []) (one 2 6 3 2 7 8) ≡ failedAnswer 2 1 2
+  pub theta-estimate : checkReply (1 ∷ 1 ∷ 2 ∷ 2 ∷ []) (oneBucket 4 4 3 2 7 6) ≡ acceptedAnswer
+  pub above-estimate : checkReply (1 ∷ 1 ∷ 2 ∷ 2 ∷ []) (oneBucket 4 3 3 2 7 6) ≡ failedAnswer 2 0 2
+  pub theta-count : checkReply (1 ∷ 7 ∷ []) (oneBucket 2 7 3 2 7 8) ≡ acceptedAnswer
+  pub above-count : checkReply (1 ∷ 7 ∷ []) (oneBucket 2 6 3 2 7 8) ≡ failedAnswer 2 1 2
   -- empty bucketlets are passed over
   pub gaps-taken : checkReply (6 ∷ 6 ∷ 4 ∷ 6 ∷ 6 ∷ 6 ∷ []) gaps ≡ acceptedAnswer
   pub after-gaps : checkReply (6 ∷ 6 ∷ 4 ∷ 6 ∷ 6 ∷ 60 ∷ []) gaps ≡ failedAnswer 1 3 6
   -- a bucketlet before its bucket's total, and that before the next bucket
-  pub two-taken : checkReply twos (two 5 4 5 4) ≡ acceptedAnswer
-  pub bucketlet-before : checkReply twos (two 9 9 5 4) ≡ failedAnswer 1 0 2
-  pub total-before : checkReply twos (two 5 9 9 4) ≡ failedAnswer 3 0 2
-  pub next-bucketlet : checkReply twos (two 5 4 9 9) ≡ failedAnswer 1 2 4
-  pub next-total : checkReply twos (two 5 4 5 9) ≡ failedAnswer 3 2 4
+  pub two-taken : checkReply twos (twoBuckets 5 4 5 4) ≡ acceptedAnswer
+  pub bucketlet-before : checkReply twos (twoBuckets 9 9 5 4) ≡ failedAnswer 1 0 2
+  pub total-before : checkReply twos (twoBuckets 5 9 9 4) ≡ failedAnswer 3 0 2
+  pub next-bucketlet : checkReply twos (twoBuckets 5 4 9 9) ≡ failedAnswer 1 2 4
+  pub next-total : checkReply twos (twoBuckets 5 4 5 9) ≡ failedAnswer 3 2 4
   -- the list's faults come before those of the words, and 13 after 12
   pub no-entry : checkReply [] [] ≡ record { refusal = 1; accepted = false; sort = 0; start = 0; end = 0 }
   pub zero-entry : checkReply (10 ∷ 0 ∷ []) [] ≡ refusedAnswer 2

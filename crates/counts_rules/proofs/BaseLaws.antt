@@ -16,7 +16,7 @@ use Rattle.counts_rules.specs.Limit.{limit}
 use Rattle.counts_rules.specs.Form.{base, usedClass}
 use Rattle.counts_rules.specs.Class.{Class, reaches, inClass, classOf, classStart, classNumber}
 use Rattle.counts_rules.specs.Total.{middle}
-use Rattle.counts_rules.specs.Private.Tables.{starts, numbers, middles}
+use Rattle.counts_rules.specs.Private.Tables.{classStarts, classNumbers, shiftMiddles}
 use Rattle.counts_rules.proofs.ClassLaws.{Reached, class-is, reached-down, start-eq, start-le, below-next, number-is}
 use Rattle.counts_rules.proofs.TotalLaws.{middle-eq}
 
@@ -81,11 +81,11 @@ numberAt c r =
 abbrev middleAt : ℕ → ℕ → Bool
 middleAt s m = leb ((m + 2 ^ s) * (m + 2 ^ s)) (2 ^ (2 * s + 1)) && ltb (2 ^ (2 * s + 1)) ((suc m + 2 ^ s) * (suc m + 2 ^ s))
 
-pub starts-right : (c : ℕ) → 1 ≤ c → c < 64 → classStart base c ≡ getD starts c 0
-unfolding starts
+pub starts-right : (c : ℕ) → 1 ≤ c → c < 64 → classStart base c ≡ getD classStarts c 0
+unfolding classStarts
 starts-right c h g =
-    let s = getD starts c 0 in
-    let e = holds-other (leb c 0) _ (at startAt starts refl c g) (lt-leb c 0 h) in
+    let s = getD classStarts c 0 in
+    let e = holds-other (leb c 0) _ (at startAt classStarts refl c g) (lt-leb c 0 h) in
     let f = both-right (leb 1 s) _ e in
     let some = leb-true 1 s (both-left (leb 1 s) _ e) in
     let r = leb-true (7 ^ (c - 1)) (s * 5 ^ (c - 1)) (both-left (reaches base (c - 1) s) _ f) in
@@ -93,23 +93,23 @@ starts-right c h g =
     start-eq base (omega arith) (omega arith) c s
     (record { reached = r; before = λ v l. let k : v ≤ s - 1 = omega arith in omega (arith, mul-le-mul-right (5 ^ (c - 1)) k) })
 
-pub numbers-right : (c : ℕ) → usedClass c ≡ true → classNumber base c ≡ getD numbers c 0
-unfolding numbers
+pub numbers-right : (c : ℕ) → usedClass c ≡ true → classNumber base c ≡ getD classNumbers c 0
+unfolding classNumbers
 numbers-right c t =
     let u = used-says c t in
-    let r = getD numbers c 0 in
+    let r = getD classNumbers c 0 in
     let x = 7 ^ (2 * c - 1) in
     let y = 5 ^ (2 * c - 1) in
-    let e = holds-other (not (usedClass c)) _ (at numberAt numbers refl c (u .1)) (not-fails (usedClass c) t) in
+    let e = holds-other (not (usedClass c)) _ (at numberAt classNumbers refl c (u .1)) (not-fails (usedClass c) t) in
     let pos = one-le-pow (2 * c - 1) 5 (omega arith) in
     root-unique x y pos (classNumber base c) r (number-is base (omega arith) (omega arith) c (u .0))
     (root-of x y pos r (leb-true _ _ (both-left (leb (r * r * y) x) _ e)) (ltb-true _ _ (both-right (leb (r * r * y) x) _ e)))
 
-pub middles-right : (s : ℕ) → s ≤ 23 → middle s ≡ getD middles s 0
-unfolding middles
+pub middles-right : (s : ℕ) → s ≤ 23 → middle s ≡ getD shiftMiddles s 0
+unfolding shiftMiddles
 middles-right s h =
-    let m = getD middles s 0 in
-    let e = at middleAt middles refl s (omega arith) in
+    let m = getD shiftMiddles s 0 in
+    let e = at middleAt shiftMiddles refl s (omega arith) in
     middle-eq s m (leb-true _ _ (both-left (leb ((m + 2 ^ s) * (m + 2 ^ s)) (2 ^ (2 * s + 1))) _ e))
     (ltb-true _ _ (both-right (leb ((m + 2 ^ s) * (m + 2 ^ s)) (2 ^ (2 * s + 1))) _ e))
 
@@ -119,7 +119,7 @@ middles-right s h =
 abbrev closeAt : ℕ → ℕ → Bool
 closeAt c r =
     not (usedClass c)
-    || inClass base c r && (ltb r (2 ^ 31) && (leb (4 * r) (5 * getD starts c 0) && leb (4 * (getD starts (suc c) 0 - 1)) (5 * r)))
+    || inClass base c r && (ltb r (2 ^ 31) && (leb (4 * r) (5 * getD classStarts c 0) && leb (4 * (getD classStarts (suc c) 0 - 1)) (5 * r)))
 
 -- what the test says of a class's number
 pub record Close (c r : ℕ) : Type 0 where
@@ -129,11 +129,11 @@ pub record Close (c r : ℕ) : Type 0 where
   pub from-above : 4 * (classStart base (suc c) - 1) ≤ 5 * r
 
 pub close : (c : ℕ) → usedClass c ≡ true → Close c (classNumber base c)
-unfolding starts numbers
+unfolding classStarts classNumbers
 close c t =
     let u = used-says c t in
-    let r = getD numbers c 0 in
-    let e = holds-other (not (usedClass c)) _ (at closeAt numbers refl c (u .1)) (not-fails (usedClass c) t) in
+    let r = getD classNumbers c 0 in
+    let e = holds-other (not (usedClass c)) _ (at closeAt classNumbers refl c (u .1)) (not-fails (usedClass c) t) in
     let f = both-right (inClass base c r) _ e in
     let g = both-right (ltb r (2 ^ 31)) _ f in
     let i = both-left (inClass base c r) _ e in
@@ -146,8 +146,8 @@ close c t =
             not-next = leb-false _ _ (not-true _ (both-right (reaches base (c - 1) r) _ i));
           };
       small = ltb-true _ _ (both-left (ltb r (2 ^ 31)) _ f);
-      from-below = rw (starts-right c (u .0) (omega arith)) (leb-true _ _ (both-left (leb (4 * r) (5 * getD starts c 0)) _ g));
-      from-above = rw (starts-right (suc c) (omega arith) (omega arith)) (leb-true _ _ (both-right (leb (4 * r) (5 * getD starts c 0)) _ g));
+      from-below = rw (starts-right c (u .0) (omega arith)) (leb-true _ _ (both-left (leb (4 * r) (5 * getD classStarts c 0)) _ g));
+      from-above = rw (starts-right (suc c) (omega arith) (omega arith)) (leb-true _ _ (both-right (leb (4 * r) (5 * getD classStarts c 0)) _ g));
     })
 
 -- a count and the number of its class

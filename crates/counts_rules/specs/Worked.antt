@@ -9,25 +9,25 @@ use Rattle.counts_rules.specs.Class.{classOf, classStart, classNumber}
 use Rattle.counts_rules.specs.Total.{totalCode, totalNumber, validCode}
 
 -- a count, its class and the class's number
-pub record Classed (v c n : ℕ) : Type 0 where
+pub record ClassExample (v c n : ℕ) : Type 0 where
   pub class : classOf base v ≡ c
   pub number : classNumber base c ≡ n
 
 -- a total, its code and the code's number
-pub record Totalled (t c n : ℕ) : Type 0 where
+pub record TotalExample (t c n : ℕ) : Type 0 where
   pub code : totalCode t ≡ c
   pub number : totalNumber c ≡ n
 
 pub record Worked : Type 0 where
-  pub count-1 : Classed 1 1 1
-  pub count-2 : Classed 2 3 2
-  pub count-5 : Classed 5 5 4
-  pub count-10 : Classed 10 7 8
-  pub count-11 : Classed 11 8 12
-  pub count-100 : Classed 100 14 93
-  pub total-127 : Totalled 127 4064 127
-  pub total-128 : Totalled 128 2049 128
-  pub total-1000 : Totalled 1000 4003 1003
+  pub count-1 : ClassExample 1 1 1
+  pub count-2 : ClassExample 2 3 2
+  pub count-5 : ClassExample 5 5 4
+  pub count-10 : ClassExample 10 7 8
+  pub count-11 : ClassExample 11 8 12
+  pub count-100 : ClassExample 100 14 93
+  pub total-127 : TotalExample 127 4064 127
+  pub total-128 : TotalExample 128 2049 128
+  pub total-1000 : TotalExample 1000 4003 1003
   -- where classes 1 to 10 begin
   pub starts : map (classStart base) (1 ∷ 2 ∷ 3 ∷ 4 ∷ 5 ∷ 6 ∷ 7 ∷ 8 ∷ 9 ∷ 10 ∷ []) ≡ 1 ∷ 2 ∷ 2 ∷ 3 ∷ 4 ∷ 6 ∷ 8 ∷ 11 ∷ 15 ∷ 21 ∷ []
   -- the classes next to those that no count has

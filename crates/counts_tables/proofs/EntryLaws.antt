@@ -12,7 +12,7 @@ use Rattle.laws.proofs.Table.{at}
 use Rattle.counts_rules.specs.Form.{base, usedClass}
 use Rattle.counts_rules.specs.Class.{classStart, classNumber}
 use Rattle.counts_rules.specs.Total.{middle}
-use Rattle.counts_rules.specs.Private.Tables.{starts, numbers, middles}
+use Rattle.counts_rules.specs.Private.Tables.{classStarts, classNumbers, shiftMiddles}
 use Rattle.counts_rules.proofs.BaseLaws.{starts-right, numbers-right, middles-right}
 use Rattle.counts_tables.specs.Entries.{startOf, numberOf, middleOf}
 
@@ -21,35 +21,35 @@ chosen : (t : Bool) (x y : ℕ) → (t ≡ true → x ≡ y) → (t ≡ false �
 chosen true x y h g = h refl
 chosen false x y h g = g refl
 
-pub start-entry : (c : ℕ) → getD starts c 0 ≡ startOf c
-unfolding startOf starts
-start-entry c = chosen (leb 1 c && leb c 63) (getD starts c 0) (classStart base c) inside (outside c)
+pub start-entry : (c : ℕ) → getD classStarts c 0 ≡ startOf c
+unfolding startOf classStarts
+start-entry c = chosen (leb 1 c && leb c 63) (getD classStarts c 0) (classStart base c) inside (outside c)
   where
-    inside : (leb 1 c && leb c 63) ≡ true → getD starts c 0 ≡ classStart base c
+    inside : (leb 1 c && leb c 63) ≡ true → getD classStarts c 0 ≡ classStart base c
     inside t =
         let l = leb-true 1 c (both-left (leb 1 c) _ t) in
         let h = leb-true c 63 (both-right (leb 1 c) _ t) in
         sym (starts-right c l (omega arith))
 
-    outside : (c : ℕ) → (leb 1 c && leb c 63) ≡ false → getD starts c 0 ≡ 0
+    outside : (c : ℕ) → (leb 1 c && leb c 63) ≡ false → getD classStarts c 0 ≡ 0
     outside zero t = refl
     outside (suc c) t =
         let a : suc c ≤ 63 → ⊥ = λ h. true-not-false (both (leb 1 (suc c)) _ (le-leb 1 (suc c) (omega arith)) (le-leb (suc c) 63 h)) t in
-        List·getD-eq-default starts 0 {n = suc c} (omega arith)
+        List·getD-eq-default classStarts 0 {n = suc c} (omega arith)
 
-pub number-entry : (c : ℕ) → getD numbers c 0 ≡ numberOf c
-unfolding numberOf numbers
-number-entry c = chosen (usedClass c) (getD numbers c 0) (classNumber base c) (λ t. sym (numbers-right c t)) outside
+pub number-entry : (c : ℕ) → getD classNumbers c 0 ≡ numberOf c
+unfolding numberOf classNumbers
+number-entry c = chosen (usedClass c) (getD classNumbers c 0) (classNumber base c) (λ t. sym (numbers-right c t)) outside
   where
-    outside : usedClass c ≡ false → getD numbers c 0 ≡ 0
+    outside : usedClass c ≡ false → getD classNumbers c 0 ≡ 0
     outside t = go (ltb c 63) refl
       where
-        go : (b : Bool) → ltb c 63 ≡ b → getD numbers c 0 ≡ 0
-        go true e = eqb-true _ _ (holds-other (usedClass c) _ (at (λ k x. usedClass k || eqb x 0) numbers refl c (ltb-true c 63 e)) t)
-        go false e = List·getD-eq-default numbers 0 (ltb-false c 63 e)
+        go : (b : Bool) → ltb c 63 ≡ b → getD classNumbers c 0 ≡ 0
+        go true e = eqb-true _ _ (holds-other (usedClass c) _ (at (λ k x. usedClass k || eqb x 0) classNumbers refl c (ltb-true c 63 e)) t)
+        go false e = List·getD-eq-default classNumbers 0 (ltb-false c 63 e)
 
-pub middle-entry : (s : ℕ) → getD middles s 0 ≡ middleOf s
-unfolding middleOf middles
+pub middle-entry : (s : ℕ) → getD shiftMiddles s 0 ≡ middleOf s
+unfolding middleOf shiftMiddles
 middle-entry s =
-    chosen (leb s 23) (getD middles s 0) (middle s) (λ t. sym (middles-right s (leb-true s 23 t)))
-    (λ t. List·getD-eq-default middles 0 (leb-false s 23 t))
+    chosen (leb s 23) (getD shiftMiddles s 0) (middle s) (λ t. sym (middles-right s (leb-true s 23 t)))
+    (λ t. List·getD-eq-default shiftMiddles 0 (leb-false s 23 t))

@@ -2,11 +2,11 @@
 
 ghost use mathlib.Core.Path.{_≡_};
 ghost use lib.ListN.{getD};
-ghost use Rattle.counts_rules.specs.Private.Tables.{starts, numbers, middles};
+ghost use Rattle.counts_rules.specs.Private.Tables.{classStarts, classNumbers, shiftMiddles};
 ghost use Rattle.counts_tables.specs.Entries.{startOf, numberOf, middleOf};
 
 fn start_entry(class: u32) -> u32
-    ensures { λ r. ⌜ r ≡ getD starts class 0 ⌝ }
+    ensures { λ r. ⌜ r ≡ getD classStarts class 0 ⌝ }
 {
     match class {
         0 => 0,
@@ -78,7 +78,7 @@ fn start_entry(class: u32) -> u32
 }
 
 fn number_entry(class: u32) -> u32
-    ensures { λ r. ⌜ r ≡ getD numbers class 0 ⌝ }
+    ensures { λ r. ⌜ r ≡ getD classNumbers class 0 ⌝ }
 {
     match class {
         0 => 0,
@@ -149,7 +149,7 @@ fn number_entry(class: u32) -> u32
 }
 
 fn middle_entry(shift: u32) -> u32
-    ensures { λ r. ⌜ r ≡ getD middles shift 0 ⌝ }
+    ensures { λ r. ⌜ r ≡ getD shiftMiddles shift 0 ⌝ }
 {
     match shift {
         0 => 0,

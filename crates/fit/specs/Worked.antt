@@ -3,22 +3,18 @@
 use mathlib.Core.Path.{_≡_}
 use mathlib.Core.Bool.{true, false}
 use mathlib.Core.List.{[], _∷_}
-use Prim.Native.Nat.{ℕ}
-use Rattle.list_rules.specs.declared.Quality.{Quality}
+use Rattle.list_rules.specs.Quality.{quality}
 use Rattle.fit.specs.Fit.{near, fits, bucketletFits}
 use Rattle.fit.specs.Accepted.{totalGood}
 
-abbrev pub quality : ℕ → Quality
-quality theta = record { theta = theta; qn = 3; qd = 2 }
-
 pub record Worked : Type 0 where
   -- a factor of 3/2 itself is near, either way, and a little more is not
-  pub near-edges : near (quality 5) 3 2 1 ∷ near (quality 5) 2 3 1 ∷ near (quality 5) 31 20 1 ∷ near (quality 5) 20 31 1 ∷ [] ≡ true ∷ true ∷ false ∷ false ∷ []
+  pub near-edges : near (quality 5 3 2) 3 2 1 ∷ near (quality 5 3 2) 2 3 1 ∷ near (quality 5 3 2) 31 20 1 ∷ near (quality 5 3 2) 20 31 1 ∷ [] ≡ true ∷ true ∷ false ∷ false ∷ []
   -- with theta 5: a count of 5 and one of 6 with the estimate 1/2, the estimates 5 and 11/2 of a count of 1
-  pub theta-edges : fits (quality 5) 5 1 2 ∷ fits (quality 5) 6 1 2 ∷ fits (quality 5) 1 10 2 ∷ fits (quality 5) 1 11 2 ∷ [] ≡ true ∷ false ∷ true ∷ false ∷ []
+  pub theta-edges : fits (quality 5 3 2) 5 1 2 ∷ fits (quality 5 3 2) 6 1 2 ∷ fits (quality 5 3 2) 1 10 2 ∷ fits (quality 5 3 2) 1 11 2 ∷ [] ≡ true ∷ false ∷ true ∷ false ∷ []
   -- theta does not excuse a whole bucketlet: 2, 2 as 17
-  pub whole : bucketletFits (quality 100) (2 ∷ 2 ∷ []) 0 2 17 ∷ bucketletFits (quality 100) (2 ∷ 2 ∷ []) 0 2 4 ∷ [] ≡ false ∷ true ∷ []
+  pub whole : bucketletFits (quality 100 3 2) (2 ∷ 2 ∷ []) 0 2 17 ∷ bucketletFits (quality 100 3 2) (2 ∷ 2 ∷ []) 0 2 4 ∷ [] ≡ false ∷ true ∷ []
   -- nor a range inside that is above it: of 1, 100 as 93 the second is 100 and estimated at 46 1/2
-  pub inside : bucketletFits (quality 99) (1 ∷ 100 ∷ []) 0 2 93 ∷ bucketletFits (quality 100) (1 ∷ 100 ∷ []) 0 2 93 ∷ [] ≡ false ∷ true ∷ []
+  pub inside : bucketletFits (quality 99 3 2) (1 ∷ 100 ∷ []) 0 2 93 ∷ bucketletFits (quality 100 3 2) (1 ∷ 100 ∷ []) 0 2 93 ∷ [] ≡ false ∷ true ∷ []
   -- a total is held to q whatever theta is: 4 as 9, and as 6
-  pub totals : totalGood (quality 100) 4 288 ∷ totalGood (quality 100) 4 192 ∷ [] ≡ false ∷ true ∷ []
+  pub totals : totalGood (quality 100 3 2) 4 288 ∷ totalGood (quality 100 3 2) 4 192 ∷ [] ≡ false ∷ true ∷ []

@@ -23,6 +23,6 @@ pub record Root (x y r : ℕ) : Type 0 where
   pub within : r * r * y ≤ x
   pub most : (s : ℕ) → s * s * y ≤ x → s ≤ r
 
--- that number, for y above 0; coding's claim number-rule states it as a Root
+-- that number, for y above 0; claim number-rule of counts_rules states it as a Root
 unfoldable pub root : ℕ → ℕ → ℕ
 root x y = largest (λ r. leb (r * r * y) x) x

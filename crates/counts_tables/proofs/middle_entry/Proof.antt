@@ -2,12 +2,12 @@
 -- Assumes nothing.
 use borrow.Author.Needs.{needs}
 use Rattle.laws.proofs.Table.{past}
-use Rattle.counts_rules.specs.Private.Tables.{middles}
+use Rattle.counts_rules.specs.Private.Tables.{shiftMiddles}
 use Rattle.counts_tables.proofs.middle_entry.Statement.{statement}
 use Rattle.counts_tables.proofs.middle_entry.Tie as tie
 
 pub middle-entry-spec : {M : Type 1} → statement M
-unfolding middles
+unfolding shiftMiddles
 middle-entry-spec =
     tie.close
     (tie.spec
@@ -35,4 +35,4 @@ middle-entry-spec =
     (λ c. search needs)
     (λ c. search needs)
     (λ c. search needs)
-    (λ c. past middles (c .before .args .shift) (c .match .rest)))
+    (λ c. past shiftMiddles (c .before .args .shift) (c .match .rest)))

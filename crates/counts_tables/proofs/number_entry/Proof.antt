@@ -2,12 +2,12 @@
 -- Assumes nothing.
 use borrow.Author.Needs.{needs}
 use Rattle.laws.proofs.Table.{past}
-use Rattle.counts_rules.specs.Private.Tables.{numbers}
+use Rattle.counts_rules.specs.Private.Tables.{classNumbers}
 use Rattle.counts_tables.proofs.number_entry.Statement.{statement}
 use Rattle.counts_tables.proofs.number_entry.Tie as tie
 
 pub number-entry-spec : {M : Type 1} → statement M
-unfolding numbers
+unfolding classNumbers
 number-entry-spec =
     tie.close
     (tie.spec
@@ -74,4 +74,4 @@ number-entry-spec =
     (λ c. search needs)
     (λ c. search needs)
     (λ c. search needs)
-    (λ c. past numbers (c .before .args .class) (c .match .rest)))
+    (λ c. past classNumbers (c .before .args .class) (c .match .rest)))

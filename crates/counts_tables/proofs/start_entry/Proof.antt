@@ -2,12 +2,12 @@
 -- Assumes nothing.
 use borrow.Author.Needs.{needs}
 use Rattle.laws.proofs.Table.{past}
-use Rattle.counts_rules.specs.Private.Tables.{starts}
+use Rattle.counts_rules.specs.Private.Tables.{classStarts}
 use Rattle.counts_tables.proofs.start_entry.Statement.{statement}
 use Rattle.counts_tables.proofs.start_entry.Tie as tie
 
 pub start-entry-spec : {M : Type 1} → statement M
-unfolding starts
+unfolding classStarts
 start-entry-spec =
     tie.close
     (tie.spec
@@ -75,4 +75,4 @@ start-entry-spec =
     (λ c. search needs)
     (λ c. search needs)
     (λ c. search needs)
-    (λ c. past starts (c .before .args .class) (c .match .rest)))
+    (λ c. past classStarts (c .before .args .class) (c .match .rest)))
