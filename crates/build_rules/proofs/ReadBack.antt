@@ -30,6 +30,7 @@ use Rattle.words_rules.proofs.StartLaws.{Starts, end-next, end-last, no-start-f
 use Rattle.words_rules.proofs.CodeLaws.{Room, no-width-fault, no-class-fault}
 use Rattle.words_rules.proofs.EntryLaws.{part-packed}
 use Rattle.words_rules.proofs.ReadingLaws.{readable}
+use Rattle.list_rules.specs.Limits.{maxEntries, maxTheta}
 use Rattle.list_rules.specs.declared.Quality.{Quality}
 use Rattle.list_rules.specs.Private.Sound.{Sound}
 use Rattle.build_rules.specs.Bucket.{bucketWidths, classesFrom, bucketFrom}
@@ -198,8 +199,8 @@ module _ (q : Quality) (fs : List ℕ) (sound : Sound fs q) where
   head-good : headGood (headOf ws) ≡ true
   head-good =
       by-buckets (headOf ws)
-      (rw entries-are (is-within 1 65536 d (record { least = sound .some; most = sound .many })))
-      (rw theta-is (is-within 1 1048575 (q .theta) (record { least = sound .theta-some; most = sound .theta-small })))
+      (rw entries-are (is-within 1 maxEntries d (record { least = sound .some; most = sound .many })))
+      (rw theta-is (is-within 1 maxTheta (q .theta) (record { least = sound .theta-some; most = sound .theta-small })))
       (rw (qn-is, qd-is)
       (is-good-q (q .qn) (q .qd)
       (record {
@@ -228,7 +229,7 @@ module _ (q : Quality) (fs : List ℕ) (sound : Sound fs q) where
       readable ws
       (record {
         head = no-head-fault ws (record { words = omega (arith, size); q-bits = q-small; head = head-good });
-        size = ap not (eq-eqb (length ws) (4 + 5 * buckets ws) (size ∙ ap (λ (b : ℕ). 4 + 5 * b) (sym n)));
+        size = ap not (eq-eqb (length ws) (headWords + bucketWords * buckets ws) (size ∙ ap (λ (b : ℕ). headWords + bucketWords * b) (sym n)));
         words = some-none (buckets ws) _ (λ b h. ap wordsBroken (packed-are b (omega arith)) ∙ encoded (bucketOf b));
         starts = no-start-fault ws starts-are;
         widths = some-none (buckets ws) _ (λ b h. no-width-fault _ _ (listed-room b (omega arith)));

@@ -11,6 +11,7 @@ use lib.Seq.{take-at, drop-at, drop-drop}
 use Rattle.laws.specs.Sums.{sum}
 use Rattle.words_rules.specs.declared.Bucket.{Bucket}
 use Rattle.words_rules.specs.Decoded.{encode}
+use Rattle.words_rules.specs.Words.{bucketWords}
 use Rattle.list_rules.specs.declared.Quality.{Quality}
 use Rattle.list_rules.specs.Private.Sound.{Sound}
 use Rattle.build_rules.specs.Bucket.{bucketWidths, bucketFrom}
@@ -23,7 +24,7 @@ module _ (q : Quality) (fs : List ℕ) (end : ℕ) (sound : Sound fs q) (inside 
   pub record Laid (a : ℕ) (rs : List Bucket) : Type 0 where
     pub starts : (k : ℕ) → k < length rs → startFrom q fs end a k < end
     pub ends : startFrom q fs end a (length rs) ≡ end
-    pub words : (k : ℕ) → k < length rs → take 5 (drop (5 * k) (bucketWordsOf rs)) ≡ encode (bucketFrom q fs end (startFrom q fs end a k))
+    pub words : (k : ℕ) → k < length rs → take bucketWords (drop (bucketWords * k) (bucketWordsOf rs)) ≡ encode (bucketFrom q fs end (startFrom q fs end a k))
     pub few : 8 * length rs ≤ end - a + 7
 
   laid-none : (a : ℕ) → a ≡ end → Laid a []
@@ -50,13 +51,13 @@ module _ (q : Quality) (fs : List ℕ) (end : ℕ) (sound : Sound fs q) (inside 
       start zero l = h
       start (suc k) l = r .starts k (le-of-suc-le-suc l)
 
-      word : (k : ℕ) → k < suc (length rs) → take 5 (drop (5 * k) (encode (bucketFrom q fs end a) ++ bucketWordsOf rs)) ≡ encode (bucketFrom q fs end (startFrom q fs end a k))
-      word zero l = take-at (encode (bucketFrom q fs end a)) (bucketWordsOf rs) 5 (encode-length (bucketFrom q fs end a))
+      word : (k : ℕ) → k < suc (length rs) → take bucketWords (drop (bucketWords * k) (encode (bucketFrom q fs end a) ++ bucketWordsOf rs)) ≡ encode (bucketFrom q fs end (startFrom q fs end a k))
+      word zero l = take-at (encode (bucketFrom q fs end a)) (bucketWordsOf rs) bucketWords (encode-length (bucketFrom q fs end a))
       word (suc k) l =
-          let e : 5 * suc k ≡ 5 + 5 * k = omega arith in
-          ap (λ (n : ℕ). take 5 (drop n (encode (bucketFrom q fs end a) ++ bucketWordsOf rs))) e
-          ∙ ap (take 5) (sym (drop-drop (5 * k) 5 (encode (bucketFrom q fs end a) ++ bucketWordsOf rs)))
-          ∙ ap (λ (ws : List ℕ). take 5 (drop (5 * k) ws)) (drop-at (encode (bucketFrom q fs end a)) (bucketWordsOf rs) 5 (encode-length (bucketFrom q fs end a)))
+          let e : bucketWords * suc k ≡ bucketWords + bucketWords * k = omega arith in
+          ap (λ (n : ℕ). take bucketWords (drop n (encode (bucketFrom q fs end a) ++ bucketWordsOf rs))) e
+          ∙ ap (take bucketWords) (sym (drop-drop (bucketWords * k) bucketWords (encode (bucketFrom q fs end a) ++ bucketWordsOf rs)))
+          ∙ ap (λ (ws : List ℕ). take bucketWords (drop (bucketWords * k) ws)) (drop-at (encode (bucketFrom q fs end a)) (bucketWordsOf rs) bucketWords (encode-length (bucketFrom q fs end a)))
           ∙ r .words k (le-of-suc-le-suc l)
 
       -- a bucket that another follows holds eight entries

@@ -10,15 +10,16 @@ use lib.ListN.{length, length-append}
 use Rattle.laws.specs.Sums.{sum}
 use Rattle.words_rules.specs.declared.Bucket.{Bucket}
 use Rattle.words_rules.specs.Decoded.{encode}
+use Rattle.words_rules.specs.Words.{bucketWords}
 use Rattle.list_rules.specs.declared.Quality.{Quality}
 use Rattle.build_rules.specs.Bucket.{bucketWidths, bucketFrom}
 use Rattle.build_rules.specs.Words.{bucketsFrom, bucketWordsOf}
 
-pub encode-length : (r : Bucket) → length (encode r) ≡ 5
+pub encode-length : (r : Bucket) → length (encode r) ≡ bucketWords
 unfolding encode
 encode-length r = refl
 
-pub words-length : (rs : List Bucket) → length (bucketWordsOf rs) ≡ 5 * length rs
+pub words-length : (rs : List Bucket) → length (bucketWordsOf rs) ≡ bucketWords * length rs
 unfolding bucketWordsOf
 words-length [] = refl
 words-length (r ∷ rs) = length-append (encode r) (bucketWordsOf rs) ∙ (let h = words-length rs in let e = encode-length r in omega arith)

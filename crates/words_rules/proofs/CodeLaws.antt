@@ -9,11 +9,12 @@ use lib.Dec.{ltb, eqb}
 use Rattle.laws.proofs.Tests.{true-not-false, both-left, both-right, fails-other, neither, neither-left, neither-right, not-holds, is-false}
 use Rattle.counts_rules.specs.Form.{usedClass}
 use Rattle.words_rules.specs.Reading.{widthsBroken, classBroken}
+use Rattle.words_rules.specs.Limits.{maxWidth}
 
 -- the listed widths lie within the span, and leave at most 4,095 of it
 pub record Room (span listed : ℕ) : Type 0 where
   pub inside : listed ≤ span
-  pub left : span - listed ≤ 4095
+  pub left : span - listed ≤ maxWidth
 
 module _ (span listed : ℕ) where
   pub room : widthsBroken span listed ≡ false → Room span listed
@@ -21,12 +22,12 @@ module _ (span listed : ℕ) where
   room f =
       record {
         inside = ltb-false span listed (neither-left (ltb span listed) _ f);
-        left = ltb-false 4095 (span - listed) (neither-right (ltb span listed) _ f);
+        left = ltb-false maxWidth (span - listed) (neither-right (ltb span listed) _ f);
       }
 
   pub no-width-fault : Room span listed → widthsBroken span listed ≡ false
   unfolding widthsBroken
-  no-width-fault r = neither (ltb span listed) _ (le-ltb span listed (r .inside)) (le-ltb 4095 (span - listed) (r .left))
+  no-width-fault r = neither (ltb span listed) _ (le-ltb span listed (r .inside)) (le-ltb maxWidth (span - listed) (r .left))
 
 -- a class is 0 or one that counts have, and is 0 exactly where the width is
 pub record ClassGood (width class : ℕ) : Type 0 where

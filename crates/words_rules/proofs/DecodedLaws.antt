@@ -20,6 +20,7 @@ use Rattle.words_rules.specs.Words.{word, kind, startIn, flagIn, listedI
 use Rattle.words_rules.specs.Decoded.{withFree, decode, listedAt, classAt, ofKind, startWord, classWord, totalWord, widthWord, encode, widthAt}
 use Rattle.words_rules.specs.Reading.{wrongKind, outsideBit, wordsBroken}
 use Rattle.words_rules.specs.Claims.{InRange}
+use Rattle.words_rules.specs.Limits.{maxListed}
 
 -- a list by its elements
 abbrev pub tabulate : ℕ → (ℕ → ℕ) → List ℕ
@@ -86,7 +87,7 @@ classes-back f h t =
     let e₇ : field v 17 12 ≡ f 7 = omega (arith, h 7 (omega arith)) in
     λ i. e₀ i ∷ e₁ i ∷ e₂ i ∷ e₃ i ∷ e₄ i ∷ e₅ i ∷ e₆ i ∷ e₇ i ∷ []
 
-listed-back : (f : ℕ → ℕ) → ((k : ℕ) → k < 7 → f k ≤ 511) → (s : ℕ) (g : Bool)
+listed-back : (f : ℕ → ℕ) → ((k : ℕ) → k < 7 → f k ≤ maxListed) → (s : ℕ) (g : Bool)
     → let t = startWord s g (f 0) in
     let u = widthWord (f 1) (f 2) (f 3) in
     let v = widthWord (f 4) (f 5) (f 6) in
@@ -245,11 +246,11 @@ most-at m [] a k = omega arith
 most-at m (x ∷ xs) a zero = a .0
 most-at m (x ∷ xs) a (suc k) = most-at m xs (a .1) k
 
-listed-most : (packed : List ℕ) → Most 511 (listedIn packed)
+listed-most : (packed : List ℕ) → Most maxListed (listedIn packed)
 listed-most packed = (omega arith, (omega arith, (omega arith, (omega arith, (omega arith, (omega arith, (omega arith, tt)))))))
 
-pub listed-bits : (packed l : List ℕ) → l ≡ listedIn packed → (k : ℕ) → getD l k 0 ≤ 511
-listed-bits packed l e k = subst (λ (m : List ℕ). getD m k 0 ≤ 511) (sym e) (most-at 511 (listedIn packed) (listed-most packed) k)
+pub listed-bits : (packed l : List ℕ) → l ≡ listedIn packed → (k : ℕ) → getD l k 0 ≤ maxListed
+listed-bits packed l e k = subst (λ (m : List ℕ). getD m k 0 ≤ maxListed) (sym e) (most-at maxListed (listedIn packed) (listed-most packed) k)
 
 classes-most : (packed : List ℕ) → Most 63 (classesIn packed)
 classes-most packed = (omega arith, (omega arith, (omega arith, (omega arith, (omega arith, (omega arith, (omega arith, (omega arith, tt))))))))
@@ -293,7 +294,7 @@ most-with-free m true free l a h = most-after m l free a h
 most-with-free m false free l a h = (h, a)
 
 -- a width is listed or the free one
-pub decoded-width : (packed : List ℕ) (end m : ℕ) → 511 ≤ m → end - startIn packed - sum (listedIn packed) ≤ m → (k : ℕ) → widthAt (decode packed end) k ≤ m
+pub decoded-width : (packed : List ℕ) (end m : ℕ) → maxListed ≤ m → end - startIn packed - sum (listedIn packed) ≤ m → (k : ℕ) → widthAt (decode packed end) k ≤ m
 unfolding decode
 decoded-width packed end m h f k =
-    most-at m (decode packed end .widths) (most-with-free m (flagIn packed) _ (listedIn packed) (most-up 511 m (listedIn packed) h (listed-most packed)) f) k
+    most-at m (decode packed end .widths) (most-with-free m (flagIn packed) _ (listedIn packed) (most-up maxListed m (listedIn packed) h (listed-most packed)) f) k

@@ -19,7 +19,7 @@ use Rattle.laws.proofs.SearchLaws.{first-is, first-eq}
 use Rattle.laws.proofs.SumsLaws.{prefix-suc, prefix-mono, prefix-all}
 use Rattle.laws.proofs.Tests.{true-not-false}
 use Rattle.words_rules.specs.declared.Bucket.{Bucket}
-use Rattle.words_rules.specs.Words.{word, place, entries, buckets, packedAt, start, end}
+use Rattle.words_rules.specs.Words.{word, place, entries, buckets, packedAt, start, end, bucketWords}
 use Rattle.words_rules.specs.Decoded.{decode, bucketAt, bucketletStart, bucketletEnd, widthAt}
 use Rattle.words_rules.specs.Reading.{readSentences, readFault, Readable}
 use Rattle.words_rules.specs.Finding.{entryFault, findFault, bucketOf, findReply, found, bucketletOf}
@@ -113,17 +113,17 @@ module _ (ws : List ℕ) (f : NoFault ws) where
       }
 
 -- the part that begins at bucket b
-pub part-packed : (ws : List ℕ) (b : ℕ) → place b 0 + 5 ≤ length ws → take 5 (drop (place b 0) ws) ≡ packedAt ws b
+pub part-packed : (ws : List ℕ) (b : ℕ) → place b 0 + bucketWords ≤ length ws → take bucketWords (drop (place b 0) ws) ≡ packedAt ws b
 part-packed ws b h =
-    let p = take 5 (drop (place b 0) ws) in
-    let at : (i : ℕ) → i < 5 → getD p i 0 ≡ word ws (place b i) =
-    λ i l. getD-take 5 (drop (place b 0) ws) i 0 l ∙ getD-drop (place b 0) ws i 0 ∙ ap (word ws) (omega arith) in
+    let p = take bucketWords (drop (place b 0) ws) in
+    let at : (i : ℕ) → i < bucketWords → getD p i 0 ≡ word ws (place b i) =
+    λ i l. getD-take bucketWords (drop (place b 0) ws) i 0 l ∙ getD-drop (place b 0) ws i 0 ∙ ap (word ws) (omega arith) in
     let e₀ = at 0 (omega arith) in
     let e₁ = at 1 (omega arith) in
     let e₂ = at 2 (omega arith) in
     let e₃ = at 3 (omega arith) in
     let e₄ = at 4 (omega arith) in
-    by-elements 5 p (simp (length-take, length-drop) (omega arith)) ∙ (λ i. e₀ i ∷ e₁ i ∷ e₂ i ∷ e₃ i ∷ e₄ i ∷ [])
+    by-elements bucketWords p (simp (length-take, length-drop) (omega arith)) ∙ (λ i. e₀ i ∷ e₁ i ∷ e₂ i ∷ e₃ i ∷ e₄ i ∷ [])
 
 -- the finder's number: that of the list, and then 15 where the entry is not below d
 pub find-fault-is : (ws : List ℕ) (e : ℕ) → findFault ws e ≡ cond (eqb (readFault ws) 0) (cond (entryFault ws e) 15 0) (readFault ws)
@@ -181,11 +181,11 @@ module _ (ws : List ℕ) (e : ℕ) where
   pub found-none : (findFault ws e ≡ 0 → ⊥) → found ws e ≡ []
   found-none n = simp (ne-eqb (findFault ws e) 0 n)
 
-  pub found-part : findFault ws e ≡ 0 → found ws e ≡ take 5 (drop (place (bucketOf ws e) 0) ws)
+  pub found-part : findFault ws e ≡ 0 → found ws e ≡ take bucketWords (drop (place (bucketOf ws e) 0) ws)
   found-part f = simp (eq-eqb (findFault ws e) 0 f)
 
 -- the words of the entry's bucket lie within the list
-pub bucket-within : (ws : List ℕ) (e : ℕ) → findFault ws e ≡ 0 → place (bucketOf ws e) 0 + 5 ≤ length ws
+pub bucket-within : (ws : List ℕ) (e : ℕ) → findFault ws e ≡ 0 → place (bucketOf ws e) 0 + bucketWords ≤ length ws
 bucket-within ws e f =
     let n = no-fault ws (found-readable ws e f) in
     omega (arith, limits ws n .words, has-bucket ws n e (found-below ws e f) .is-bucket)

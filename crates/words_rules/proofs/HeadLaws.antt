@@ -42,7 +42,7 @@ unfolding headGood
 by-buckets h d t q = ap (λ (x : Bool). x && between 1 (h .entries) (h .buckets)) (both _ _ (both _ _ d t) q)
 
 pub record HeadWords (ws : List ℕ) : Type 0 where
-  pub words : 4 ≤ length ws
+  pub words : headWords ≤ length ws
   pub q-bits : word ws 2 < 2 ^ 20
   pub head : headGood (headOf ws) ≡ true
 
@@ -50,7 +50,7 @@ module _ (ws : List ℕ) where
   pub head-words : headFault ws ≡ false → HeadWords ws
   unfolding headFault
   head-words f =
-      let a = ltb (length ws) 4 in
+      let a = ltb (length ws) headWords in
       let b = not (ltb (word ws 2) (2 ^ 20)) in
       let c = not (headGood (headOf ws)) in
       let ab = neither-left (a || b) c f in

@@ -24,6 +24,8 @@ use Rattle.list_rules.proofs.LimitLaws.{good-q}
 use Rattle.words_rules.proofs.HeadLaws.{good-head, head-words}
 use Rattle.words_rules.proofs.StartLaws.{Starts, starts, tiles}
 use Rattle.words_rules.proofs.CodeLaws.{Room, room, ClassGood, class-good, class-used}
+use Rattle.words_rules.specs.Limits.{maxWidth}
+use Rattle.list_rules.specs.Limits.{maxEntries, maxTheta}
 
 pub record NoFault (ws : List ℕ) : Type 0 where
   pub head : headFault ws ≡ false
@@ -75,8 +77,8 @@ unfolding lengthFault
 limits ws f =
     let words = head-words ws (f .head) in
     let h = good-head (headOf ws) (words .head) in
-    let d = within 1 65536 (entries ws) (h .entries) in
-    let t = within 1 1048575 (theta ws) (h .theta) in
+    let d = within 1 maxEntries (entries ws) (h .entries) in
+    let t = within 1 maxTheta (theta ws) (h .theta) in
     let q = good-q (qn ws) (qd ws) (h .q) in
     let n = within 1 (entries ws) (buckets ws) (h .buckets) in
     record {
@@ -131,7 +133,7 @@ module _ (ws : List ℕ) (f : NoFault ws) (b : ℕ) (h : b < buckets ws) where
       record {
         in-range = decoded packed (end ws b) fits-in;
         spanned = decoded-sum packed (end ws b) fits-in;
-        widths = decoded-width packed (end ws b) 4095 (omega arith) (room-in .left);
+        widths = decoded-width packed (end ws b) maxWidth (omega arith) (room-in .left);
         empty-class = λ k g. class-in k g .empty;
         class-used = λ k g. class-used _ _ (class-in k g);
         total-valid = not-false _ (neither-right (some 8 (λ k. classBroken (widthAt r k) (classAt r k))) (not (validCode (r .total))) codes-in);
