@@ -14,7 +14,7 @@ use Rattle.laws.proofs.RefusalLaws.{numbered, append-first, append-passed}
 use Rattle.laws.proofs.Tests.{both-left, both-right, holds-other}
 use Rattle.counts_rules.specs.Total.{totalNumber}
 use Rattle.words_rules.specs.Words.{buckets, start, span}
-use Rattle.words_rules.specs.Decoded.{bucketAt, classAt, bucketletStart, widthAt, numberAt}
+use Rattle.words_rules.specs.Decoded.{bucketAt, bucketletStart, widthAt, numberAt}
 use Rattle.words_rules.specs.Reading.{readSentences, Readable}
 use Rattle.fit.specs.Fit.{bucketletFits}
 use Rattle.list_rules.specs.Frequencies.{listSentences}

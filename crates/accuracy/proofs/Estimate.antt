@@ -9,7 +9,7 @@ use native.Mathlib.Omega.{arith}
 use Rattle.laws.specs.Sums.{partSum}
 use Rattle.counts_rules.specs.Total.{totalNumber}
 use Rattle.words_rules.specs.Words.{entries, theta, qn, qd, buckets, start, end, span}
-use Rattle.words_rules.specs.Decoded.{bucketAt, classAt, bucketletStart, bucketletEnd, widthAt, numberAt}
+use Rattle.words_rules.specs.Decoded.{bucketAt, bucketletStart, bucketletEnd, widthAt, numberAt}
 use Rattle.words_rules.proofs.Proved.{histogram}
 use Rattle.words_rules.proofs.EntryLaws.{bucketlet-end}
 use Rattle.fit.specs.Accepted.{qualityOf}

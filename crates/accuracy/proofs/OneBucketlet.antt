@@ -11,7 +11,7 @@ use Rattle.laws.specs.Sums.{partSum}
 use Rattle.laws.proofs.Tests.{is-false, tested}
 use Rattle.words_rules.specs.declared.Bucket.{Bucket}
 use Rattle.words_rules.specs.Words.{entries, theta, qn, qd, buckets, start, end}
-use Rattle.words_rules.specs.Decoded.{bucketAt, classAt, bucketletStart, bucketletEnd, widthAt, numberAt}
+use Rattle.words_rules.specs.Decoded.{bucketAt, bucketletStart, bucketletEnd, widthAt, numberAt}
 use Rattle.words_rules.proofs.Proved.{histogram}
 use Rattle.words_rules.proofs.EntryLaws.{bucketlet-end}
 use Rattle.fit.specs.Accepted.{qualityOf}

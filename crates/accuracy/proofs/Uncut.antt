@@ -9,7 +9,7 @@ use native.Mathlib.Omega.{arith}
 use Rattle.laws.specs.Sums.{partSum}
 use Rattle.laws.proofs.Tests.{tested}
 use Rattle.words_rules.specs.Words.{entries, theta, qn, qd, buckets, start, end}
-use Rattle.words_rules.specs.Decoded.{bucketAt, classAt, bucketletStart, widthAt, numberAt}
+use Rattle.words_rules.specs.Decoded.{bucketAt, bucketletStart, widthAt, numberAt}
 use Rattle.words_rules.proofs.EntryLaws.{bucketlet-end}
 use Rattle.fit.specs.Accepted.{qualityOf}
 use Rattle.estimate_rules.specs.declared.Fraction.{Fraction}

@@ -15,7 +15,7 @@ use Rattle.laws.proofs.Tests.{both, both-left, both-right, either, holds-left, 
 use Rattle.laws.proofs.EachLaws.{each-at, each-all}
 use Rattle.words_rules.specs.declared.Bucket.{Bucket}
 use Rattle.words_rules.specs.Words.{buckets, start, end}
-use Rattle.words_rules.specs.Decoded.{bucketAt, classAt, bucketletStart, widthAt, numberAt}
+use Rattle.words_rules.specs.Decoded.{bucketAt, bucketletStart, widthAt, numberAt}
 use Rattle.list_rules.specs.declared.Quality.{Quality}
 use Rattle.fit.specs.Fit.{bucketletFits}
 use Rattle.fit.specs.Accepted.{checkFault, qualityOf, bucketletGood, totalGood, bucketGood, accepted}

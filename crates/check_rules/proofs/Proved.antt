@@ -7,7 +7,7 @@ use lib.Dec.{eqb}
 use Rattle.laws.specs.Sums.{partSum}
 use Rattle.laws.proofs.Tests.{same-test}
 use Rattle.words_rules.specs.Words.{start, end, span}
-use Rattle.words_rules.specs.Decoded.{bucketAt, classAt, bucketletStart, widthAt, numberAt}
+use Rattle.words_rules.specs.Decoded.{bucketAt, bucketletStart, widthAt, numberAt}
 use Rattle.fit.specs.Accepted.{qualityOf, totalGood, accepted}
 use Rattle.check_rules.specs.declared.Sort.the-variants.{Bucketlet, Part}
 use Rattle.check_rules.specs.declared.Failing.{Failing}

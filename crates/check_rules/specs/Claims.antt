@@ -7,7 +7,7 @@ use Prim.Native.Nat.{ℕ, _+_, _-_, _≤_, _<_}
 use lib.Dec.{eqb}
 use Rattle.laws.specs.Sums.{partSum}
 use Rattle.words_rules.specs.Words.{buckets, start, end, span}
-use Rattle.words_rules.specs.Decoded.{bucketAt, classAt, bucketletStart, widthAt, numberAt}
+use Rattle.words_rules.specs.Decoded.{bucketAt, bucketletStart, widthAt, numberAt}
 use Rattle.list_rules.specs.declared.Quality.{Quality}
 use Rattle.fit.specs.Accepted.{checkFault, qualityOf, bucketletGood, totalGood, bucketGood, accepted}
 use Rattle.check_rules.specs.Reply.{refusedAnswer, acceptedAnswer, failedAnswer}

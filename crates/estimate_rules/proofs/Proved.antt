@@ -8,7 +8,7 @@ use Rattle.laws.specs.Reply.{answered}
 use Rattle.laws.proofs.Tests.{is-false}
 use Rattle.words_rules.specs.Limits.{maxWidth}
 use Rattle.words_rules.specs.Words.{entries, buckets, start, end}
-use Rattle.words_rules.specs.Decoded.{bucketAt, classAt, bucketletStart, widthAt, numberAt}
+use Rattle.words_rules.specs.Decoded.{bucketAt, bucketletStart, widthAt, numberAt}
 use Rattle.words_rules.specs.Reading.{Readable}
 use Rattle.words_rules.proofs.Proved.{histogram}
 use Rattle.estimate_rules.specs.declared.Fraction.{Fraction}

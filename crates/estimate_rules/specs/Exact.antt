@@ -8,7 +8,7 @@ use lib.Dec.{leb, eqb}
 use Rattle.counts_rules.specs.Total.{totalNumber}
 use Rattle.words_rules.specs.declared.Bucket.{Bucket}
 use Rattle.words_rules.specs.Words.{buckets, start, end}
-use Rattle.words_rules.specs.Decoded.{bucketAt, classAt, bucketletStart, widthAt, numberAt}
+use Rattle.words_rules.specs.Decoded.{bucketAt, bucketletStart, widthAt, numberAt}
 use Rattle.estimate_rules.specs.declared.Fraction.{Fraction}
 use Rattle.estimate_rules.specs.Fraction.{number, nothing, quotient, sumOf}
 

@@ -11,7 +11,7 @@ use Rattle.laws.specs.Sums.{partSum}
 use Rattle.counts_rules.specs.Total.{totalNumber}
 use Rattle.words_rules.specs.declared.Bucket.{Bucket}
 use Rattle.words_rules.specs.Words.{entries, theta, qn, qd, buckets, start, span}
-use Rattle.words_rules.specs.Decoded.{bucketAt, classAt, bucketletStart, widthAt, numberAt}
+use Rattle.words_rules.specs.Decoded.{bucketAt, bucketletStart, widthAt, numberAt}
 use Rattle.words_rules.specs.Reading.{readSentences}
 use Rattle.list_rules.specs.declared.Quality.{Quality}
 use Rattle.fit.specs.Fit.{near, bucketletFits}

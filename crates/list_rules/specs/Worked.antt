@@ -3,7 +3,6 @@
 use mathlib.Core.Path.{_≡_}
 use mathlib.Core.Bool.{true, false}
 use mathlib.Core.List.{[], _∷_, map}
-use Prim.Native.Nat.{ℕ}
 use Rattle.laws.specs.Refusal.{refusal}
 use Rattle.list_rules.specs.Limits.{entriesGood, thetaGood, qGood}
 use Rattle.list_rules.specs.Frequencies.{listFault}

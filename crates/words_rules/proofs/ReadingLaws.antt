@@ -6,7 +6,6 @@ use mathlib.Core.List.{List}
 use Prim.Native.Nat.{ℕ, zero, suc, _+_, _^_, _≤_, _<_}
 use native.Mathlib.Omega.{arith}
 use borrow.Author.Tests.{eqb-true, not-false}
-use lib.ListN.{getD}
 use Rattle.laws.specs.Each.{some}
 use Rattle.laws.specs.Refusal.{refusal}
 use Rattle.laws.specs.Sums.{sum}
@@ -18,7 +17,7 @@ use Rattle.words_rules.specs.Words.{word, kind, entries, theta, qn, qd, 
 use Rattle.words_rules.specs.Decoded.{classAt, bucketAt, widthAt}
 use Rattle.words_rules.specs.Reading.{headFault, lengthFault, wordFault, startFault, widthsBroken, widthFault, classBroken, codesBroken, codeFault, readSentences, readFault, Readable}
 use Rattle.words_rules.specs.Claims.{HeadLimits, Holds}
-use Rattle.words_rules.proofs.DecodedLaws.{class-bits, decoded, decoded-sum, decoded-width}
+use Rattle.words_rules.proofs.DecodedLaws.{decoded, decoded-sum, decoded-width}
 use Rattle.laws.proofs.BetweenLaws.{within}
 use Rattle.list_rules.proofs.LimitLaws.{good-q}
 use Rattle.words_rules.proofs.HeadLaws.{good-head, head-words}
