@@ -15,7 +15,7 @@ use Rattle.laws.specs.Each.{each}
 use Rattle.laws.specs.Reply.{answered, refused, caseOf}
 use Rattle.laws.proofs.EachLaws.{each-at}
 use Rattle.laws.proofs.ReplyLaws.{answered-case, refused-case}
-use Rattle.laws.proofs.Tests.{true-not-false, both, both-left, both-right, is-false, same-test}
+use Rattle.laws.proofs.Tests.{true-not-false, both, is-false, same-test}
 use Rattle.counts_rules.specs.Limit.{limit, countable}
 use Rattle.counts_rules.specs.Form.{base, usedClass}
 use Rattle.counts_rules.specs.Class.{classOf, classStart, classNumber}
@@ -40,10 +40,6 @@ module _ {A : Type 0} (value refusal : ℕ → A) where
 
 pub in-range : (v : ℕ) → 1 ≤ v → v ≤ limit → countable v ≡ true
 in-range v h l = both (leb 1 v) (leb v limit) (le-leb 1 v h) (le-leb v limit l)
-
-pub out-of-range : (v : ℕ) → (1 ≤ v → v ≤ limit → ⊥) → countable v ≡ false
-out-of-range v h =
-    is-false (countable v) (λ t. h (leb-true 1 v (both-left (leb 1 v) _ t)) (leb-true v limit (both-right (leb 1 v) _ t)))
 
 pub not-used : (c : ℕ) → (1 ≤ c → c < 63 → (c ≡ 2 → ⊥) → ⊥) → usedClass c ≡ false
 not-used c h = is-false (usedClass c) (λ t. let u = used-says c t in h (u .0) (u .1) (u .2))

@@ -4,7 +4,7 @@ ghost use mathlib.Core.Path.{_≡_};
 ghost use mathlib.Core.Bool.{cond};
 ghost use Prim.Native.Nat.{_≤_, _<_};
 ghost use lib.Dec.{leb, eqb};
-ghost use Rattle.counts_rules.specs.Limit.{limit};
+ghost use Rattle.counts_rules.specs.Limit.{limit, countable};
 ghost use Rattle.counts_rules.specs.Form.{base, usedClass};
 ghost use Rattle.counts_rules.specs.Class.{classOf};
 ghost use Rattle.counts_rules.specs.Total.{shift, validFields, validCode};
@@ -24,6 +24,13 @@ pub enum Coded {
 pub enum Meaning {
     Number(u32),
     Refused,
+}
+
+// Whether a count can be coded, as class or total.
+fn is_countable(count: u32) -> bool
+    ensures { λ r. ⌜ r ≡ countable count ⌝ }
+{
+    arithmetic::is_between(1, LIMIT, count)
 }
 
 // 1 if a count is in a class or above it, else 0.
@@ -52,10 +59,7 @@ pub fn class_of(count: u32) -> Coded
     ensures { λ r. ⌜ codedReply r ≡ classReply count ⌝ }
     ensures { λ r. ⌜ r ≡ codedOf (classReply count) ⌝ }
 {
-    if count == 0 {
-        return Coded::Refused;
-    }
-    if LIMIT < count {
+    if !is_countable(count) {
         return Coded::Refused;
     }
     Coded::Code(class_search(count))
@@ -100,10 +104,7 @@ pub fn code_of_total(total: u32) -> Coded
     ensures { λ r. ⌜ codedReply r ≡ totalReply total ⌝ }
     ensures { λ r. ⌜ r ≡ codedOf (totalReply total) ⌝ }
 {
-    if total == 0 {
-        return Coded::Refused;
-    }
-    if LIMIT < total {
+    if !is_countable(total) {
         return Coded::Refused;
     }
     let shift = shift_of(total);

@@ -1,32 +1,37 @@
--- `counts::class_of` meets its contract. The two tests are those of the range.
+-- `counts::class_of` meets its contract: a count that can be coded has the class that is searched for.
 -- Assumes nothing.
+use mathlib.Core.Path.{_≡_, sym, _∙_}
+use mathlib.Core.Bool.{true}
 use native.Mathlib.Omega.{arith}
 use borrow.Author.Needs.{needs}
-use Rattle.counts_rules.specs.Limit.{countable}
+use borrow.Author.Tests.{not-true, not-false}
+use Rattle.laws.proofs.BetweenLaws.{within}
+use Rattle.counts_rules.specs.Limit.{limit, countable}
 use Rattle.counts_rules.specs.Form.{base}
 use Rattle.counts_rules.specs.Class.{classOf}
 use Rattle.counts.specs.declared.Coded.the-variants.{Code, Refused}
 use Rattle.counts.specs.Reply.{classReply}
-use Rattle.counts.proofs.CountLaws.{replied, turned-away, in-range, out-of-range}
+use Rattle.counts.proofs.CountLaws.{replied, turned-away}
 use Rattle.counts.proofs.class_of.Statement.{statement}
 use Rattle.counts.proofs.class_of.Tie as tie
 
 returns : tie.Need-returns
 unfolding classReply
-returns c = let v = c .before .args .count in turned-away Code (λ _. Refused) (countable v) (classOf base v) 16 (out-of-range v (λ h l. omega arith)) (λ z. omega arith)
+returns c =
+    let v = c .before .before .args .count in
+    turned-away Code (λ _. Refused) (countable v) (classOf base v) 16 (sym (c .before .is-countable .ensures) ∙ not-true _ (c .if1 .taken)) (λ z. omega arith)
+
+tested : (c : tie.Else1) → countable (c .before .before .args .count) ≡ true
+tested c = sym (c .before .is-countable .ensures) ∙ not-false _ (c .if1 .left)
+
+class-search-requires : tie.Need-class-search-requires
+class-search-requires c κs = let w = within 1 limit (c .before .before .args .count) (tested c) in (w .least, w .most)
 
 returns-2 : tie.Need-returns-2
 unfolding classReply
-returns-2 c = let v = c .before .before .args .count in turned-away Code (λ _. Refused) (countable v) (classOf base v) 16 (out-of-range v (λ h l. omega arith)) (λ z. omega arith)
-
-class-search-requires : tie.Need-class-search-requires
-class-search-requires c κs = search needs
-
-returns-3 : tie.Need-returns-3
-unfolding classReply
-returns-3 c =
+returns-2 c =
     let v = c .before .before .before .args .count in
-    replied Code (λ _. Refused) (countable v) _ (classOf base v) 16 (in-range v (omega arith) (omega arith)) (c .class-search .ensures)
+    replied Code (λ _. Refused) (countable v) _ (classOf base v) 16 (tested (c .before)) (c .class-search .ensures)
 
 pub class-of-spec : {M : Type 1} → statement M
-class-of-spec = tie.close (tie.spec returns returns-2 class-search-requires returns-3)
+class-of-spec = tie.close (tie.spec (λ c κs. search needs) returns class-search-requires returns-2)

@@ -2,7 +2,7 @@
 -- Assumes nothing.
 use mathlib.Core.Path.{sym}
 use native.Mathlib.Omega.{arith}
-use borrow.Author.Tests.{ltb-true, ltb-false}
+use borrow.Author.Tests.{ltb-true, ltb-false, leb-true, leb-false}
 use Rattle.laws.proofs.Tests.{agree}
 use Rattle.counts_rules.proofs.BaseLaws.{says-used}
 use Rattle.counts.proofs.CountLaws.{not-used}
@@ -19,8 +19,8 @@ returns-3 : tie.Need-returns-3
 returns-3 c =
     let k = c .before .before .args .class in
     agree _ _
-    (λ t. says-used k (omega arith) (omega (arith, ltb-true)) (λ e. omega arith))
-    (λ f. not-used k (λ h l n. omega (arith, ltb-false)))
+    (λ t. says-used k (omega arith) (omega (arith, ltb-true, leb-true)) (λ e. omega arith))
+    (λ f. not-used k (λ h l n. omega (arith, ltb-false, leb-false)))
 
 pub is-class-spec : {M : Type 1} → statement M
 is-class-spec = tie.close (tie.spec returns returns-2 returns-3)
