@@ -21,26 +21,17 @@ add-least c = search needs
 add-reached : tie.Need-add-reached
 add-reached c = search needs
 
-reached-requires : tie.Need-reached-requires
-reached-requires c κs = search needs
-
 add-result : tie.Need-add-result
 add-result c = omega (arith, c .reached .ensures .1)
 
 add-reached-2 : tie.Need-add-reached-2
 add-reached-2 c = search needs
 
-reached-requires-2 : tie.Need-reached-requires-2
-reached-requires-2 c κs = search needs
-
 add-result-2 : tie.Need-add-result-2
 add-result-2 c = omega (arith, c .before .reached .ensures .1, c .reached2 .ensures .1)
 
 add-reached-3 : tie.Need-add-reached-3
 add-reached-3 c = search needs
-
-reached-requires-3 : tie.Need-reached-requires-3
-reached-requires-3 c κs = search needs
 
 add-result-3 : tie.Need-add-result-3
 add-result-3 c = omega (arith, c .before .before .reached .ensures .1, c .before .reached2 .ensures .1, c .reached3 .ensures .1)
@@ -62,12 +53,12 @@ class-search-spec =
     mul-least
     add-least
     add-reached
-    reached-requires
+    (λ c κs. search needs)
     add-result
     add-reached-2
-    reached-requires-2
+    (λ c κs. search needs)
     add-result-2
     add-reached-3
-    reached-requires-3
+    (λ c κs. search needs)
     add-result-3
     returns)

@@ -15,9 +15,6 @@ returns c = never-valid _ _ (λ v. omega (arith, v .bits-top))
 returns-2 : tie.Need-returns-2
 returns-2 c = never-valid _ _ (λ v. omega (arith, v .shift-top))
 
-least-bits-requires : tie.Need-least-bits-requires
-least-bits-requires c κs = search needs
-
 returns-3 : tie.Need-returns-3
 returns-3 c =
     let a = c .before .before .before .args in
@@ -28,4 +25,4 @@ returns-3 c =
     (λ v. le-leb (c .least-bits .result) (a .bits) (⊎-elim (λ z. omega (arith, l .3 z, v .some)) (λ s. omega (arith, l .1, v .bits-low s)) (eq-zero-or-pos (a .shift))))
 
 pub is-valid-spec : {M : Type 1} → statement M
-is-valid-spec = tie.close (tie.spec returns returns-2 least-bits-requires returns-3)
+is-valid-spec = tie.close (tie.spec returns returns-2 (λ c κs. search needs) returns-3)

@@ -12,9 +12,6 @@ use Rattle.counts.proofs.CountLaws.{replied, turned-away, number-in}
 use Rattle.counts.proofs.number_of_class.Statement.{statement}
 use Rattle.counts.proofs.number_of_class.Tie as tie
 
-is-class-requires : tie.Need-is-class-requires
-is-class-requires c κs = search needs
-
 returns : tie.Need-returns
 unfolding classMeaning
 returns c =
@@ -32,4 +29,4 @@ returns-2 c =
     replied Number (λ _. Refused) (usedClass k) _ (classNumber base k) 17 t (c .class-number .ensures ∙ number-in k t)
 
 pub number-of-class-spec : {M : Type 1} → statement M
-number-of-class-spec = tie.close (tie.spec is-class-requires returns class-number-requires returns-2)
+number-of-class-spec = tie.close (tie.spec (λ c κs. search needs) returns class-number-requires returns-2)

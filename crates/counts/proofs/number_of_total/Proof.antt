@@ -14,9 +14,6 @@ use Rattle.counts.proofs.CountLaws.{replied, turned-away, number-packed
 use Rattle.counts.proofs.number_of_total.Statement.{statement}
 use Rattle.counts.proofs.number_of_total.Tie as tie
 
-is-total-code-requires : tie.Need-is-total-code-requires
-is-total-code-requires c κs = search needs
-
 -- what the test of the code says
 tested : (c : tie.After-is-total-code) (u : Bool) → c .is-total-code .result ≡ u → validCode (c .before .args .code) ≡ u
 tested c u e = sym (c .is-total-code .ensures) ∙ e
@@ -29,9 +26,6 @@ returns c =
 
 shl-t6 : tie.Need-shl-t6
 shl-t6 c = let n = c .before .before .args .code in omega (arith, and-mask n 5, and-comm n 31)
-
-shift-middle-requires : tie.Need-shift-middle-requires
-shift-middle-requires c κs = search needs
 
 valid : (c : tie.After-shift-middle) → validCode (c .before .before .before .args .code) ≡ true
 valid c = tested (c .before .before) true (not-false _ (c .before .if1 .left))
@@ -50,4 +44,4 @@ returns-2 c =
 
 pub number-of-total-spec : {M : Type 1} → statement M
 number-of-total-spec =
-    tie.close (tie.spec is-total-code-requires returns shl-t6 shift-middle-requires add-t8 returns-2)
+    tie.close (tie.spec (λ c κs. search needs) returns shl-t6 (λ c κs. search needs) add-t8 returns-2)

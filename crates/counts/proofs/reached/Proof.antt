@@ -6,9 +6,6 @@ use Rattle.counts_tables.specs.Entries.{startOf}
 use Rattle.counts.proofs.reached.Statement.{statement}
 use Rattle.counts.proofs.reached.Tie as tie
 
-class-start-requires : tie.Need-class-start-requires
-class-start-requires c κs = search needs
-
 returns : tie.Need-returns
 returns c =
     let a = c .before .before .args in
@@ -22,4 +19,4 @@ returns-2 c =
     (by-le (startOf (a .class)) (a .count) _ 1 0 (λ h. omega (arith, e)) (λ h. omega (arith, e)), omega arith)
 
 pub reached-spec : {M : Type 1} → statement M
-reached-spec = tie.close (tie.spec class-start-requires returns returns-2)
+reached-spec = tie.close (tie.spec (λ c κs. search needs) returns returns-2)

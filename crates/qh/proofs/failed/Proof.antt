@@ -8,16 +8,10 @@ use Rattle.qh.specs.Results.{verdictStruct}
 use Rattle.qh.proofs.failed.Statement.{statement}
 use Rattle.qh.proofs.failed.Tie as tie
 
-number-of-requires : tie.Need-number-of-requires
-number-of-requires c κs = search needs
-
-answer-requires : tie.Need-answer-requires
-answer-requires c κs = search needs
-
 returns : tie.Need-returns
 returns c =
     let f = c .before .before .args .failing in
     c .answer .ensures ∙ ap (λ (n : ℕ). verdictStruct (failedAnswer n (f .start) (f .end))) (c .before .number-of .ensures)
 
 pub failed-spec : {M : Type 1} → statement M
-failed-spec = tie.close (tie.spec number-of-requires answer-requires returns)
+failed-spec = tie.close (tie.spec (λ c κs. search needs) (λ c κs. search needs) returns)

@@ -7,27 +7,6 @@ use Rattle.qh.specs.Results.{verdictStruct}
 use Rattle.qh.proofs.qh_check.Statement.{statement}
 use Rattle.qh.proofs.qh_check.Tie as tie
 
-check-requires : tie.Need-check-requires
-check-requires c κs = search needs
-
-enum-known-refusal : tie.Need-enum-known-refusal
-enum-known-refusal c = search needs
-
-answer-requires : tie.Need-answer-requires
-answer-requires c κs = search needs
-
-enum-told : tie.Need-enum-told
-enum-told c = search needs
-
-answer-requires-2 : tie.Need-answer-requires-2
-answer-requires-2 c κs = search needs
-
-enum-known-failing : tie.Need-enum-known-failing
-enum-known-failing c = search needs
-
-failed-requires : tie.Need-failed-requires
-failed-requires c κs = search needs
-
 returns : tie.Need-returns
 returns c =
     c .answer .ensures
@@ -46,13 +25,13 @@ pub qh-check-spec : {M : Type 1} → statement M
 qh-check-spec =
     tie.close
     (tie.spec
-    check-requires
-    enum-known-refusal
-    answer-requires
-    enum-told
-    answer-requires-2
-    enum-known-failing
-    failed-requires
+    (λ c κs. search needs)
+    (λ c. search needs)
+    (λ c κs. search needs)
+    (λ c. search needs)
+    (λ c κs. search needs)
+    (λ c. search needs)
+    (λ c κs. search needs)
     returns
     returns-2
     returns-3)

@@ -5,14 +5,8 @@ use borrow.Author.Needs.{needs}
 use Rattle.qh.proofs.qh_class_of.Statement.{statement}
 use Rattle.qh.proofs.qh_class_of.Tie as tie
 
-class-of-requires : tie.Need-class-of-requires
-class-of-requires c κs = search needs
-
-coded-requires : tie.Need-coded-requires
-coded-requires c κs = search needs
-
 returns : tie.Need-returns
 returns c = c .coded .ensures ∙ c .before .class-of .ensures .0
 
 pub qh-class-of-spec : {M : Type 1} → statement M
-qh-class-of-spec = tie.close (tie.spec class-of-requires coded-requires returns)
+qh-class-of-spec = tie.close (tie.spec (λ c κs. search needs) (λ c κs. search needs) returns)

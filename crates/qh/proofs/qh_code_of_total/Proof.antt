@@ -5,14 +5,8 @@ use borrow.Author.Needs.{needs}
 use Rattle.qh.proofs.qh_code_of_total.Statement.{statement}
 use Rattle.qh.proofs.qh_code_of_total.Tie as tie
 
-code-of-total-requires : tie.Need-code-of-total-requires
-code-of-total-requires c κs = search needs
-
-coded-requires : tie.Need-coded-requires
-coded-requires c κs = search needs
-
 returns : tie.Need-returns
 returns c = c .coded .ensures ∙ c .before .code-of-total .ensures .0
 
 pub qh-code-of-total-spec : {M : Type 1} → statement M
-qh-code-of-total-spec = tie.close (tie.spec code-of-total-requires coded-requires returns)
+qh-code-of-total-spec = tie.close (tie.spec (λ c κs. search needs) (λ c κs. search needs) returns)

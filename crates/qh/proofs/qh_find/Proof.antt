@@ -6,15 +6,6 @@ use Rattle.finder.specs.Place.{placeReply}
 use Rattle.qh.proofs.qh_find.Statement.{statement}
 use Rattle.qh.proofs.qh_find.Tie as tie
 
-find-place-requires : tie.Need-find-place-requires
-find-place-requires c κs = search needs
-
-enum-known-at : tie.Need-enum-known-at
-enum-known-at c = search needs
-
-enum-known-refusal : tie.Need-enum-known-refusal
-enum-known-refusal c = search needs
-
 returns : tie.Need-returns
 returns c = ap placeReply (sym (c .before .at .given .1)) ∙ c .before .before .before .find-place .ensures .0
 
@@ -23,4 +14,4 @@ returns-2 c = ap placeReply (sym (c .before .refusal .given .1)) ∙ c .before .
 
 pub qh-find-spec : {M : Type 1} → statement M
 qh-find-spec =
-    tie.close (tie.spec find-place-requires enum-known-at enum-known-refusal returns returns-2)
+    tie.close (tie.spec (λ c κs. search needs) (λ c. search needs) (λ c. search needs) returns returns-2)

@@ -14,9 +14,6 @@ use Rattle.sheet.proofs.main.Tie as tie
 slice-aggregate-read-all : tie.Need-slice-aggregate-read-all
 slice-aggregate-read-all c = search needs
 
-read-all-requires : tie.Need-read-all-requires
-read-all-requires c κs = search needs
-
 slice-aggregate-write-all : tie.Need-slice-aggregate-write-all
 slice-aggregate-write-all c = search needs
 
@@ -31,9 +28,6 @@ array-share-prefix-space c = search needs
 
 slice-aggregate-put-sheet : tie.Need-slice-aggregate-put-sheet
 slice-aggregate-put-sheet c = let r = c .before .before .before .read-all in sym (length-take-le (r .result .count) (r .last .0) (r .ensures))
-
-put-sheet-requires : tie.Need-put-sheet-requires
-put-sheet-requires c κs = search needs
 
 -- no sheet is longer than its space
 printed-within : (c : tie.After-put-sheet) → c .put-sheet .result ≤ length (c .put-sheet .last .1 .0)
@@ -68,13 +62,13 @@ main-spec =
     tie.close
     (tie.spec
     slice-aggregate-read-all
-    read-all-requires
+    (λ c κs. search needs)
     slice-aggregate-write-all
     write-all-requires
     returns
     array-share-prefix-space
     slice-aggregate-put-sheet
-    put-sheet-requires
+    (λ c κs. search needs)
     array-share-prefix-out
     slice-aggregate-write-all-2
     write-all-requires-2

@@ -27,9 +27,6 @@ part-read-once-start c = search needs
 part-read-once-end : tie.Need-part-read-once-end Inv-loop μ-loop
 part-read-once-end c = search needs
 
-read-once-requires : tie.Need-read-once-requires Inv-loop μ-loop
-read-once-requires c κs = search needs
-
 add-count : tie.Need-add-count Inv-loop μ-loop
 add-count c =
     let l = c .before .before .before .before .before .before .before .before .loop in
@@ -55,14 +52,8 @@ loop-again c =
     let kept = same-len-mid (l .count) (length (l .space) - l .count) (l .space) (r .last .0) same in
     (omega (arith, r .ensures, same, left, kept), kept ∙ l .inv .1)
 
-same-length : tie.Need-same-length Inv-loop μ-loop
-same-length c = search needs
-
 returns : tie.Need-returns Inv-loop μ-loop
 returns c = search needs
-
-same-length-2 : tie.Need-same-length-2 Inv-loop μ-loop
-same-length-2 c = search needs
 
 returns-2 : tie.Need-returns-2 Inv-loop μ-loop
 returns-2 c = search needs
@@ -77,11 +68,11 @@ read-all-spec =
     sub-read-once
     part-read-once-start
     part-read-once-end
-    read-once-requires
+    (λ c κs. search needs)
     add-count
     loop-less
     loop-again
-    same-length
+    (λ c. search needs)
     returns
-    same-length-2
+    (λ c. search needs)
     returns-2)
