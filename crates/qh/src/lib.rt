@@ -9,6 +9,7 @@ use counts::Coded;
 use counts::Meaning;
 use estimator::Asked;
 use finder::Place;
+use sheet_rules::SHEET_BYTES;
 ghost use mathlib.Core.Path.{_≡_};
 ghost use lib.ListN.{length};
 ghost use Rattle.counts.specs.Reply.{codedReply, meaningReply, classReply, classMeaning, totalReply, totalMeaning};
@@ -201,7 +202,7 @@ pub extern "C" fn qh_find(words: &[u32], entry: u32) -> QhFound
 
 // Fills the first bytes that are lent with what the exam sheet prints for an input and answers how many they are; a refusal is printed too.
 #[no_mangle]
-pub extern "C" fn qh_sheet(input: &[u8], out: &mut [u8; 163840]) -> usize
+pub extern "C" fn qh_sheet(input: &[u8], out: &mut [u8; SHEET_BYTES]) -> usize
     ensures { λ r. ⌜ r ≡ length (sheet (now (input .entry))) ⌝ }
     ensures { λ r. ⌜ now (out .exit) ≡ filled (now (out .entry)) (sheet (now (input .entry))) ⌝ }
 {

@@ -3,6 +3,8 @@
 use libc::STDERR_FILENO;
 use libc::STDIN_FILENO;
 use libc::STDOUT_FILENO;
+use sheet_rules::MAX_INPUT;
+use sheet_rules::SHEET_BYTES;
 ghost use Prim.Native.Nat.{_≤_};
 ghost use lib.ListN.{length};
 
@@ -41,14 +43,14 @@ fn read_all(space: &mut [u8]) -> Read
 
 fn main() {
     // One byte more than the longest input: where it is filled, no byte that follows changes what is printed.
-    let mut space = [0u8; 45090];
+    let mut space = [0u8; MAX_INPUT + 1];
     let read = read_all(&mut space);
     if read.failed {
         io::write_all(STDERR_FILENO, b"sheet: standard input cannot be read\n");
         return;
     }
     let n = read.count;
-    let mut out = [0u8; 163840];
+    let mut out = [0u8; SHEET_BYTES];
     let printed = sheet_text::put_sheet(&space[..n], &mut out);
     if !io::write_all(STDOUT_FILENO, &out[..printed]) {
         io::write_all(STDERR_FILENO, b"sheet: standard output cannot be written\n");

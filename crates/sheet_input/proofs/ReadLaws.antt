@@ -12,7 +12,8 @@ use Rattle.laws.proofs.PaddedLaws.{zeros-after, is-padded}
 use Rattle.laws.proofs.Tests.{both, fails-left, fails-right, is-false}
 use Rattle.laws.specs.Between.{between}
 use Rattle.laws.proofs.BetweenLaws.{within, is-within}
-use Rattle.sheet_rules.specs.Input.{lines, every, allNumerals, numbers, leastNumbers, mostNumbers, asDescribed}
+use Rattle.sheet_rules.specs.Limits.{leastNumbers, mostNumbers}
+use Rattle.sheet_rules.specs.Input.{lines, every, allNumerals, numbers, asDescribed}
 use Rattle.sheet_input.specs.declared.Numbers.{Numbers}
 use Rattle.sheet_input.specs.Private.Lines.{Stepped}
 use Rattle.sheet_input.specs.Numbers.{numbersOf, inputNumbers}

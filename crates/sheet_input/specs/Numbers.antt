@@ -5,7 +5,8 @@ use mathlib.Core.List.{List, []}
 use Prim.Native.Nat.{ℕ}
 use lib.ListN.{length}
 use Rattle.laws.specs.Padded.{padded}
-use Rattle.sheet_rules.specs.Input.{mostNumbers, asDescribed, numbers}
+use Rattle.sheet_rules.specs.Limits.{mostNumbers}
+use Rattle.sheet_rules.specs.Input.{asDescribed, numbers}
 use Rattle.sheet_input.specs.declared.Numbers.{Numbers}
 
 abbrev pub numbersOf : ℕ → List ℕ → Numbers

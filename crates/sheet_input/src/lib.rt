@@ -4,17 +4,17 @@ mod line;
 
 use line::Line;
 use line::line_at;
+use sheet_rules::LEAST_NUMBERS;
+use sheet_rules::MOST_NUMBERS;
 ghost use mathlib.Core.Path.{_≡_};
 ghost use mathlib.Core.List.{[]};
 ghost use Rattle.sheet_input.specs.Numbers.{numbersOf, inputNumbers};
-
-pub const MOST_NUMBERS: usize = 4099;
 
 // The first `count` values are the numbers, and those after them are 0; or the refusal 18.
 pub struct Numbers {
     pub refusal: u32,
     pub count: usize,
-    pub values: [u32; 4099],
+    pub values: [u32; MOST_NUMBERS],
 }
 
 fn refused() -> Numbers
@@ -23,7 +23,7 @@ fn refused() -> Numbers
     Numbers {
         refusal: 18,
         count: 0,
-        values: [0; 4099],
+        values: [0; MOST_NUMBERS],
     }
 }
 
@@ -31,7 +31,7 @@ fn refused() -> Numbers
 pub fn numbers_of(input: &[u8]) -> Numbers
     ensures { λ r. ⌜ r ≡ inputNumbers (now (input .entry)) ⌝ }
 {
-    let mut values = [0u32; 4099];
+    let mut values = [0u32; MOST_NUMBERS];
     let mut n: usize = 0;
     let mut start: usize = 0;
     while start < input.len() {
@@ -45,7 +45,7 @@ pub fn numbers_of(input: &[u8]) -> Numbers
         n += 1;
         start = next;
     }
-    if n < 4 {
+    if n < LEAST_NUMBERS {
         return refused();
     }
     Numbers {

@@ -1,2 +1,3 @@
 pub mod CountLaws
 pub mod PutLaws
+pub mod PatternLaws

@@ -1,23 +1,19 @@
--- Laws of bytes that are put at a place, one after the other or from the last to the first.
+-- Laws of bytes that are put at a place.
 -- Assumes nothing.
 use mathlib.Core.Path.{_≡_, refl, sym, ap, _∙_}
 use mathlib.Core.List.{List, [], _∷_, _++_}
-use Prim.Native.Nat.{ℕ, suc, _+_, _-_, _/_, _%_, _≤_, _<_}
+use Prim.Native.Nat.{ℕ, suc, _+_, _-_, _/_, _%_, _≤_}
 use native.Mathlib.Nat.{zero-add}
 use native.Mathlib.Omega.{arith}
-use lib.ListN.{length, getD, set, take, drop, length-append, length-replicate}
-use lib.Seq.{sets, sets-eq, set-comm, take-suc, length-take-le}
+use lib.ListN.{length, set, drop, length-replicate}
+use lib.Seq.{sets, sets-eq, set-comm}
 use Rattle.laws.specs.Padded.{zeros, padded}
 use Rattle.laws.proofs.PaddedLaws.{drop-zeros}
+use Rattle.laws.proofs.SetsLaws.{sets-append}
+use Rattle.sheet_rules.specs.Limits.{lineBytes}
 use Rattle.sheet_rules.specs.Text.{digitByte, digits}
 use Rattle.sheet_rules.proofs.TextLaws.{digits-length}
 use Rattle.sheet_lines.specs.Line.{lineOf}
-
-pub sets-append : (l : List ℕ) (i : ℕ) (xs ys : List ℕ) → sets l i (xs ++ ys) ≡ sets (sets l i xs) (i + length xs) ys
-sets-append l i [] ys = let same : i + 0 ≡ i = omega arith in ap (λ (k : ℕ). sets l k ys) (sym same)
-sets-append l i (x ∷ xs) ys =
-    let moved : suc i + length xs ≡ i + suc (length xs) = omega arith in
-    sets-append (set l i x) (suc i) xs ys ∙ ap (λ (k : ℕ). sets (sets (set l i x) (suc i) xs) k ys) moved
 
 -- a store past them may come first
 sets-set : (l : List ℕ) (i : ℕ) (xs : List ℕ) (j a : ℕ) → i + length xs ≤ j → sets (set l j a) i xs ≡ set (sets l i xs) j a
@@ -34,41 +30,13 @@ unfolding digits
 digit-put l at k n =
     sets-last l at (digits k (n / 10)) (digitByte (n % 10)) ∙ ap (λ (j : ℕ). sets (set l (at + j) (digitByte (n % 10))) at (digits k (n / 10))) (digits-length k (n / 10))
 
--- a byte of a word is put, after those before it
-pub byte-put : (l : List ℕ) (at : ℕ) (word : List ℕ) (i : ℕ) → i < length word
-    → set (sets l at (take i word)) (at + i) (getD word i 0) ≡ sets l at (take (suc i) word)
-byte-put l at word i h =
-    sym
-    (ap (sets l at) (take-suc word i 0 h)
-    ∙ sets-append l at (take i word) (getD word i 0 ∷ [])
-    ∙ ap (λ (k : ℕ). set (sets l at (take i word)) (at + k) (getD word i 0)) (length-take-le i word (omega arith)))
-
--- what is put so far, from the start on, and where it ends
-pub record Done (bytes : List ℕ) (at : ℕ) (text : List ℕ) : Type 0 where
-  pub put : bytes ≡ sets (zeros 80) 0 text
-  pub end : at ≡ length text
-
-pub nothing : Done (zeros 80) 0 []
-nothing = record { put = refl; end = refl }
-
--- and something after it
-pub after : {bytes text : List ℕ} {at : ℕ} (more next : List ℕ) (end : ℕ) → next ≡ sets bytes at more → end ≡ at + length more
-    → Done bytes at text → Done next end (text ++ more)
-after {bytes} {text} {at} more next end e f d =
-    record {
-      put =
-          e
-          ∙ ap (λ (l : List ℕ). sets l at more) (d .put)
-          ∙ ap (λ (k : ℕ). sets (sets (zeros 80) 0 text) k more) (d .end ∙ sym (zero-add (length text)))
-          ∙ sym (sets-append (zeros 80) 0 text more);
-      end = omega (arith, f, d .end, length-append text more);
-    }
-
--- so the line is that of it
-pub line : {bytes text : List ℕ} {n : ℕ} → n ≤ 80 → Done bytes n text → record { bytes = bytes; length = n } ≡ lineOf text
+-- a text that is put from the start on makes a line
+pub line-is : (bytes text : List ℕ) (n : ℕ) → n ≤ lineBytes → bytes ≡ sets (zeros lineBytes) 0 text → n ≡ length text
+    → record { bytes = bytes; length = n } ≡ lineOf text
 unfolding lineOf
-line {bytes} {text} {n} h d =
-    let rest : drop (0 + length text) (zeros 80) ≡ zeros (80 - length text) = drop-zeros (0 + length text) 80 ∙ ap (λ (k : ℕ). zeros (80 - k)) (zero-add (length text)) in
-    let all : bytes ≡ padded 80 text =
-    d .put ∙ sets-eq text (zeros 80) 0 (omega (arith, h, d .end, length-replicate {A = ℕ} 80 0)) ∙ ap (λ (l : List ℕ). text ++ l) rest in
-    ap (λ (k : ℕ). record { bytes = bytes; length = k }) (d .end) ∙ ap (λ (l : List ℕ). record { bytes = l; length = length text }) all
+line-is bytes text n h put end =
+    let rest : drop (0 + length text) (zeros lineBytes) ≡ zeros (lineBytes - length text) =
+    drop-zeros (0 + length text) lineBytes ∙ ap (λ (k : ℕ). zeros (lineBytes - k)) (zero-add (length text)) in
+    let all : bytes ≡ padded lineBytes text =
+    put ∙ sets-eq text (zeros lineBytes) 0 (omega (arith, h, end, length-replicate {A = ℕ} lineBytes 0)) ∙ ap (λ (l : List ℕ). text ++ l) rest in
+    λ i. record { bytes = all i; length = end i }

@@ -1,22 +1,23 @@
 // The lines of the exam sheet, each as its bytes.
 
+use sheet_rules::LINE_BYTES;
 use words_rules::Head;
-ghost use mathlib.Core.List.{_++_};
 ghost use mathlib.Core.Path.{_≡_};
-ghost use Prim.Native.Nat.{_+_, _≤_};
+ghost use Prim.Native.Nat.{_+_, _-_, _*_, _≤_};
 ghost use lib.ListN.{length};
 ghost use lib.Seq.{sets};
+ghost use Rattle.sheet_rules.specs.Limits.{maxDigits, lineBytes};
 ghost use Rattle.sheet_rules.specs.Text.{decimal, places};
 ghost use Rattle.sheet_rules.specs.Lines.{headLine, bucketLine, bucketletLine, refusedLine};
 ghost use Rattle.sheet_lines.specs.Line.{lineOf};
-ghost use Rattle.sheet_lines.specs.Private.Digits.{maxDigits};
+ghost use Rattle.sheet_lines.specs.Private.Pattern.{filledIn};
 
-// A line before anything is put.
-const BLANK: [u8; 80] = [0; 80];
+// A pattern has this byte where a number stands.
+const MARK: u8 = b'#';
 
 // The first `length` bytes are the line, and those after them are 0.
 pub struct Line {
-    pub bytes: [u8; 80],
+    pub bytes: [u8; LINE_BYTES],
     pub length: usize,
 }
 
@@ -33,10 +34,9 @@ fn digit_count(n: u32) -> usize
     k
 }
 
-// Each of these puts something at a place and answers where it ends.
-
-fn put_number(bytes: &mut [u8; 80], at: usize, n: u32) -> usize
-    requires { ⌜ at + maxDigits ≤ 80 ⌝ }
+// Puts n at a place and answers where it ends.
+fn put_number(bytes: &mut [u8; LINE_BYTES], at: usize, n: u32) -> usize
+    requires { ⌜ at + maxDigits ≤ lineBytes ⌝ }
     ensures { λ r. ⌜ (now (bytes .exit) ≡ sets (now (bytes .entry)) at (decimal n)) × (r ≡ at + length (decimal n)) × (r ≤ at + maxDigits) ⌝ }
 {
     let k = digit_count(n);
@@ -50,73 +50,54 @@ fn put_number(bytes: &mut [u8; 80], at: usize, n: u32) -> usize
     at + k
 }
 
-fn put_word(bytes: &mut [u8; 80], at: usize, word: &[u8]) -> usize
-    requires { ⌜ at + length (now word) ≤ 80 ⌝ }
-    ensures { λ r. ⌜ (now (bytes .exit) ≡ sets (now (bytes .entry)) at (now (word .entry))) × (r ≡ at + length (now (word .entry))) ⌝ }
+// A pattern with the numbers in the place of its marks.
+fn line_of(pattern: &[u8], numbers: &[u32]) -> Line
+    requires { ⌜ length (now pattern) + (maxDigits - 1) * length (now numbers) ≤ lineBytes ⌝ }
+    ensures { λ r. ⌜ r ≡ lineOf (filledIn (now (pattern .entry)) (now (numbers .entry))) ⌝ }
 {
-    let mut i: usize = 0;
-    while i < word.len() {
-        bytes[at + i] = word[i];
-        i += 1;
+    let mut bytes = [0u8; LINE_BYTES];
+    let mut length: usize = 0;
+    let mut k: usize = 0;
+    for i in 0..pattern.len() {
+        if pattern[i] == MARK && k < numbers.len() {
+            length = put_number(&mut bytes, length, numbers[k]);
+            k += 1;
+        } else {
+            bytes[length] = pattern[i];
+            length += 1;
+        }
     }
-    at + i
-}
-
-// A number after a word.
-fn put(bytes: &mut [u8; 80], at: usize, word: &[u8], n: u32) -> usize
-    requires { ⌜ at + length (now word) + maxDigits ≤ 80 ⌝ }
-    ensures { λ r. ⌜ (now (bytes .exit) ≡ sets (now (bytes .entry)) at (now (word .entry) ++ decimal n)) × (r ≡ at + length (now (word .entry) ++ decimal n)) × (r ≤ at + length (now (word .entry)) + maxDigits) ⌝ }
-{
-    let middle = put_word(bytes, at, word);
-    put_number(bytes, middle, n)
+    Line { bytes, length }
 }
 
 // d, theta, q and the number of buckets.
 pub fn head_line(head: Head) -> Line
     ensures { λ r. ⌜ r ≡ lineOf (headLine (head .entries) (head .theta) (head .qn) (head .qd) (head .buckets)) ⌝ }
 {
-    let mut bytes = BLANK;
-    let a = put(&mut bytes, 0, b"codes ", head.entries);
-    let b = put(&mut bytes, a, b" theta ", head.theta);
-    let c = put(&mut bytes, b, b" q ", head.qn);
-    let d = put(&mut bytes, c, b"/", head.qd);
-    let e = put(&mut bytes, d, b" buckets ", head.buckets);
-    let length = put_word(&mut bytes, e, b"\n");
-    Line { bytes, length }
+    let numbers = [head.entries, head.theta, head.qn, head.qd, head.buckets];
+    line_of(b"codes # theta # q #/# buckets #\n", &numbers)
 }
 
 // A bucket's start, end, total code and number.
 pub fn bucket_line(start: u32, end: u32, code: u32, number: u32) -> Line
     ensures { λ r. ⌜ r ≡ lineOf (bucketLine start end code number) ⌝ }
 {
-    let mut bytes = BLANK;
-    let a = put(&mut bytes, 0, b"bucket ", start);
-    let b = put(&mut bytes, a, b" ", end);
-    let c = put(&mut bytes, b, b" total ", code);
-    let d = put(&mut bytes, c, b" ", number);
-    let length = put_word(&mut bytes, d, b"\n");
-    Line { bytes, length }
+    let numbers = [start, end, code, number];
+    line_of(b"bucket # # total # #\n", &numbers)
 }
 
 // A bucketlet's start, end, class and number.
 pub fn bucketlet_line(start: u32, end: u32, class: u32, number: u32) -> Line
     ensures { λ r. ⌜ r ≡ lineOf (bucketletLine start end class number) ⌝ }
 {
-    let mut bytes = BLANK;
-    let a = put_number(&mut bytes, 0, start);
-    let b = put(&mut bytes, a, b" ", end);
-    let c = put(&mut bytes, b, b" code ", class);
-    let d = put(&mut bytes, c, b" count ", number);
-    let length = put_word(&mut bytes, d, b"\n");
-    Line { bytes, length }
+    let numbers = [start, end, class, number];
+    line_of(b"# # code # count #\n", &numbers)
 }
 
 // A refusal's number.
 pub fn refused_line(number: u32) -> Line
     ensures { λ r. ⌜ r ≡ lineOf (refusedLine number) ⌝ }
 {
-    let mut bytes = BLANK;
-    let a = put(&mut bytes, 0, b"refused ", number);
-    let length = put_word(&mut bytes, a, b"\n");
-    Line { bytes, length }
+    let numbers = [number];
+    line_of(b"refused #\n", &numbers)
 }

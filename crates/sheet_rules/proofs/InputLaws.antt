@@ -14,6 +14,7 @@ use borrow.Author.Tests.{ltb-true, not-true, eqb-false, lt-ltb, ne-eqb}
 use native.Mathlib.Nat.{le-trans, not-le-of-lt, mul-le-mul-right, pow-succ', pow-le-pow-right}
 use Rattle.laws.proofs.Tests.{both, both-left, both-right, fails-left, fails-right, tested, true-not-false, is-false, not-holds}
 use Rattle.laws.proofs.BetweenLaws.{within}
+use Rattle.sheet_rules.specs.Limits.{maxDigits}
 use Rattle.sheet_rules.specs.Input.{lineFeed, Lines, inFront, lineInFront, lines, every, digit, leadingZero, valueAfter, value, numeral, allNumerals}
 
 -- ---- every
@@ -164,11 +165,11 @@ numeral-least (c ∷ cs) n h =
     let power : 10 ^ (length (c ∷ cs) - 1) ≡ 10 ^ length cs = ap (λ (k : ℕ). 10 ^ k) (omega arith) in
     omega (arith, least, value-least (10 * 0 + (c - 48)) cs, power)
 
--- a number has at most ten digits
-pub numeral-short : (l : List ℕ) → numeral l ≡ true → length l ≤ 10
+-- a number has at most so many digits
+pub numeral-short : (l : List ℕ) → numeral l ≡ true → length l ≤ maxDigits
 numeral-short l n =
     le-unless (λ h. not-le-of-lt (numeral-is l n .small)
-    (le-trans (omega arith) (le-trans (pow-le-pow-right {n = 10} (omega arith) {i = 10} {j = length l - 1} (omega arith)) (numeral-least l n (omega arith)))))
+    (le-trans (omega arith) (le-trans (pow-le-pow-right {n = 10} (omega arith) {i = maxDigits} {j = length l - 1} (omega arith)) (numeral-least l n (omega arith)))))
   where
     le-unless : {a b : ℕ} → (b < a → ⊥) → a ≤ b
     le-unless {a} {b} h = omega (arith, h)

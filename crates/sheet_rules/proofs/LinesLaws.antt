@@ -4,7 +4,7 @@ use mathlib.Core.Path.{_≡_, refl, sym, ap, _∙_}
 use mathlib.Core.Bool.{Bool, true, false, not, cond}
 use mathlib.Core.List.{List, [], _∷_, _++_, map}
 use mathlib.Core.Logic.{⊎-elim}
-use Prim.Native.Nat.{ℕ, _*_, _^_, _≤_}
+use Prim.Native.Nat.{ℕ, _+_, _*_, _^_, _≤_}
 use native.Mathlib.Omega.{arith}
 use lib.Dec.{ltb, eqb}
 use lib.ListN.{length, length-append, length-map}
@@ -13,8 +13,9 @@ use borrow.Author.Tests.{ltb-true, eqb-true, ne-eqb}
 use Rattle.laws.proofs.Tests.{both, both-left, both-right, tested, not-holds}
 use Rattle.laws.proofs.BetweenLaws.{Within, within, is-within}
 use Rattle.laws.specs.Between.{between}
+use Rattle.sheet_rules.specs.Limits.{leastNumbers, mostNumbers, maxDigits, maxInput}
 use Rattle.sheet_rules.specs.Text.{decimal}
-use Rattle.sheet_rules.specs.Input.{lineFeed, Lines, inFront, lineInFront, lines, every, digit, value, numeral, allNumerals, numbers, asDescribed, leastNumbers, mostNumbers}
+use Rattle.sheet_rules.specs.Input.{lineFeed, Lines, inFront, lineInFront, lines, every, digit, value, numeral, allNumerals, numbers, asDescribed}
 use Rattle.sheet_rules.specs.Claims.{asLines}
 use Rattle.sheet_rules.proofs.InputLaws.{noFeed, ended-line, numeral-is, numeral-short}
 use Rattle.sheet_rules.proofs.TextLaws.{decimal-value, decimal-numeral, value-decimal}
@@ -45,8 +46,8 @@ lines-back (c ∷ cs) = ⊎-elim (feed (lines-back cs)) (other (lines-back cs)) 
     other : unlines (lines cs .ended) (lines cs .rest) ≡ cs → eqb c lineFeed ≡ false → whole (eqb c lineFeed) ≡ c ∷ cs
     other back e = ap whole e ∙ front-unlines c (lines cs .ended) (lines cs .rest) ∙ ap (λ (l : List ℕ). c ∷ l) back
 
--- lines of numbers are at most eleven bytes each
-unlines-short : (ls : List (List ℕ)) → every numeral ls ≡ true → length (unlines ls []) ≤ 11 * length ls
+-- lines of numbers are at most so long each
+unlines-short : (ls : List (List ℕ)) → every numeral ls ≡ true → length (unlines ls []) ≤ (maxDigits + 1) * length ls
 unfolding every
 unlines-short [] h = omega arith
 unlines-short (l ∷ ls) h =
@@ -90,7 +91,7 @@ described input h =
     no-rest [] e = refl
     no-rest (x ∷ l) e = absurd (omega arith)
 
-pub input-short : (input : List ℕ) → asDescribed input ≡ true → length input ≤ 45089
+pub input-short : (input : List ℕ) → asDescribed input ≡ true → length input ≤ maxInput
 input-short input h =
     let d = described input h in
     omega (arith, unlines-short (lines input .ended) (d .numerals), ap length (d .all), d .many .most)

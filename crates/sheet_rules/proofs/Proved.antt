@@ -11,10 +11,11 @@ use borrow.Author.Tests.{leb-true, leb-false}
 use lib.ListN.{length, getD, take, drop, length-drop, length-map}
 use lib.Seq.{take-all, length-take-le}
 use Rattle.laws.proofs.Tests.{tested, is-false}
+use Rattle.sheet_rules.specs.Limits.{leastNumbers, mostNumbers, maxInput, maxSheet}
 use Rattle.sheet_rules.specs.Input.{lines, value, asDescribed, numbers}
 use Rattle.sheet_rules.specs.Lines.{refusedLine}
 use Rattle.sheet_rules.specs.Sheet.{numbersSheet, sheet, filled}
-use Rattle.sheet_rules.specs.Claims.{maxInput, maxSheet, Exam}
+use Rattle.sheet_rules.specs.Claims.{Exam}
 use Rattle.sheet_rules.proofs.TextLaws.{places-some, below-power, reaches-power}
 use Rattle.sheet_rules.proofs.LinesLaws.{described, input-short, read, written}
 use Rattle.sheet_rules.proofs.SheetLaws.{refused-short, list-short, filled-whole}
@@ -29,7 +30,7 @@ pub sheet-read : (input : List ℕ) → asDescribed input ≡ true → sheet inp
 unfolding sheet
 sheet-read input e = ap (λ (t : Bool). cond t (numbersSheet (numbers input)) (refusedLine 18)) e
 
-pub numbers-many : (input : List ℕ) → asDescribed input ≡ true → (4 ≤ length (numbers input)) × (length (numbers input) ≤ 4099)
+pub numbers-many : (input : List ℕ) → asDescribed input ≡ true → (leastNumbers ≤ length (numbers input)) × (length (numbers input) ≤ mostNumbers)
 unfolding numbers
 numbers-many input h =
     let d = described input h in

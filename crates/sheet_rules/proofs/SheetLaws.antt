@@ -1,4 +1,4 @@
--- How long what is printed is: each line is at most so long, and a list of at most 4,096 entries has at most 512 buckets.
+-- How long what is printed is: each line is at most so long, and a list that is short enough has few buckets.
 -- Assumes nothing.
 use mathlib.Core.Path.{_≡_, refl, ap, _∙_}
 use mathlib.Core.Bool.{Bool, true, false, cond, _&&_}
@@ -25,6 +25,7 @@ use Rattle.words_rules.proofs.Proved.{histogram}
 use Rattle.build_rules.specs.Words.{words}
 use Rattle.list_rules.specs.Quality.{quality, inputSentences}
 use Rattle.build_rules.proofs.Proved.{building}
+use Rattle.sheet_rules.specs.Limits.{maxFrequencies, maxHeadLine, maxBucketLine, maxBucketletLine, maxBucketPart, maxSheet}
 use Rattle.sheet_rules.specs.Text.{ascii}
 use Rattle.sheet_rules.specs.Lines.{labelled, headLine, bucketLine, bucketletLine, refusedLine}
 use Rattle.sheet_rules.specs.Sheet.{joined, bucketletPart, bucketPart, histogramSheet, listSheet, filled}
@@ -48,7 +49,7 @@ pub labelled-short : (word : String) (n k : ℕ) → 1 ≤ k → n < 10 ^ k → 
 labelled-short word n k o h = whole (ascii word) then record { within = omega (arith, decimal-length n, places-few n k o h) }
 
 pub head-short : (d theta qn qd buckets : ℕ) → d < 10 ^ 4 → theta < 10 ^ 7 → qn < 10 ^ 4 → qd < 10 ^ 4 → buckets < 10 ^ 3
-    → Short (headLine d theta qn qd buckets) 49
+    → Short (headLine d theta qn qd buckets) maxHeadLine
 head-short d theta qn qd buckets h₁ h₂ h₃ h₄ h₅ =
     labelled-short "codes " d 4 (omega arith) h₁
     then labelled-short " theta " theta 7 (omega arith) h₂
@@ -57,23 +58,24 @@ head-short d theta qn qd buckets h₁ h₂ h₃ h₄ h₅ =
     then labelled-short " buckets " buckets 3 (omega arith) h₅
     then whole (ascii "\n")
 
-pub bucket-line-short : (start end code number : ℕ) → start < 10 ^ 4 → end < 10 ^ 4 → code < 10 ^ 4 → number < 10 ^ 10
-    → Short (bucketLine start end code number) 39
-bucket-line-short start end code number h₁ h₂ h₃ h₄ =
-    labelled-short "bucket " start 4 (omega arith) h₁
+-- a line of a start, an end, a code and a number
+span-short : (first third fourth : String) (start end code number k : ℕ) → 1 ≤ k → start < 10 ^ 4 → end < 10 ^ 4 → code < 10 ^ k → number < 10 ^ 10
+    → Short (labelled first start ++ labelled " " end ++ labelled third code ++ labelled fourth number ++ ascii "\n")
+    (length (ascii first) + 4 + 5 + (length (ascii third) + k) + (length (ascii fourth) + 10) + 1)
+span-short first third fourth start end code number k o h₁ h₂ h₃ h₄ =
+    labelled-short first start 4 (omega arith) h₁
     then labelled-short " " end 4 (omega arith) h₂
-    then labelled-short " total " code 4 (omega arith) h₃
-    then labelled-short " " number 10 (omega arith) h₄
+    then labelled-short third code k o h₃
+    then labelled-short fourth number 10 (omega arith) h₄
     then whole (ascii "\n")
 
+pub bucket-line-short : (start end code number : ℕ) → start < 10 ^ 4 → end < 10 ^ 4 → code < 10 ^ 4 → number < 10 ^ 10
+    → Short (bucketLine start end code number) maxBucketLine
+bucket-line-short start end code number = span-short "bucket " " total " " " start end code number 4 (omega arith)
+
 pub bucketlet-line-short : (start end class number : ℕ) → start < 10 ^ 4 → end < 10 ^ 4 → class < 10 ^ 2 → number < 10 ^ 10
-    → Short (bucketletLine start end class number) 35
-bucketlet-line-short start end class number h₁ h₂ h₃ h₄ =
-    labelled-short "" start 4 (omega arith) h₁
-    then labelled-short " " end 4 (omega arith) h₂
-    then labelled-short " code " class 2 (omega arith) h₃
-    then labelled-short " count " number 10 (omega arith) h₄
-    then whole (ascii "\n")
+    → Short (bucketletLine start end class number) maxBucketletLine
+bucketlet-line-short start end class number = span-short "" " code " " count " start end class number 2 (omega arith)
 
 pub refused-short : (number : ℕ) → number < 10 ^ 10 → Short (refusedLine number) 19
 refused-short number h = labelled-short "refused " number 10 (omega arith) h then whole (ascii "\n")
@@ -92,13 +94,13 @@ module _ (r : Bucket) (k : ℕ) where
   unfolding bucketletPart
   some-part h = ap (λ (t : Bool). cond t [] line) (ne-eqb (widthAt r k) 0 (λ e. omega arith))
 
-pub bucketlet-short : (r : Bucket) → Printable r → (k : ℕ) → k < 8 → Short (bucketletPart r k) 35
+pub bucketlet-short : (r : Bucket) → Printable r → (k : ℕ) → k < 8 → Short (bucketletPart r k) maxBucketletLine
 bucketlet-short r p k h = ⊎-elim none some (eq-zero-or-pos (widthAt r k))
   where
-    none : widthAt r k ≡ 0 → Short (bucketletPart r k) 35
+    none : widthAt r k ≡ 0 → Short (bucketletPart r k) maxBucketletLine
     none e = record { within = omega (arith, ap length (empty-part r k e)) }
 
-    some : 0 < widthAt r k → Short (bucketletPart r k) 35
+    some : 0 < widthAt r k → Short (bucketletPart r k) maxBucketletLine
     some q =
         let printed =
         bucketlet-line-short (bucketletStart r k) (bucketletEnd r k) (classAt r k) (numberAt r k)
@@ -128,7 +130,7 @@ module _ (ws : List ℕ) (roomy : Roomy ws) where
     pub start-small : start ws b < 10 ^ 4
     start-small = omega (arith, end-small, histogram .tiles ws (roomy .readable) .not-empty b is)
 
-    pub bucket-short : Short (bucketLine (start ws b) (end ws b) (bucketAt ws b .total) (totalNumber (bucketAt ws b .total))) 39
+    pub bucket-short : Short (bucketLine (start ws b) (end ws b) (bucketAt ws b .total) (totalNumber (bucketAt ws b .total))) maxBucketLine
     bucket-short =
         bucket-line-short (start ws b) (end ws b) (bucketAt ws b .total) (totalNumber (bucketAt ws b .total)) start-small end-small
         (omega (arith, holds .in-range .total-bits))
@@ -148,28 +150,28 @@ module _ (ws : List ℕ) (roomy : Roomy ws) where
           class-used = holds .class-used;
         }
 
-    pub part-short : Short (bucketPart ws b) 319
+    pub part-short : Short (bucketPart ws b) maxBucketPart
     unfolding bucketPart
-    part-short = bucket-short then joined-short 8 (bucketletPart (bucketAt ws b)) 35 (bucketlet-short (bucketAt ws b) printable)
+    part-short = bucket-short then joined-short 8 (bucketletPart (bucketAt ws b)) maxBucketletLine (bucketlet-short (bucketAt ws b) printable)
 
-  pub first-line-short : Short (headLine (entries ws) (theta ws) (qn ws) (qd ws) (buckets ws)) 49
+  pub first-line-short : Short (headLine (entries ws) (theta ws) (qn ws) (qd ws) (buckets ws)) maxHeadLine
   first-line-short =
       let l = histogram .limits ws (roomy .readable) in
       head-short (entries ws) (theta ws) (qn ws) (qd ws) (buckets ws) (omega (arith, roomy .short)) (omega (arith, l .most-theta)) (omega (arith, l .most-qn)) (omega (arith, l .most-qd)) (omega (arith, roomy .few))
 
   -- the head and the first b buckets
   pub buckets-short : (b : ℕ) → b ≤ buckets ws
-      → Short (headLine (entries ws) (theta ws) (qn ws) (qd ws) (buckets ws) ++ joined b (bucketPart ws)) (49 + b * 319)
-  buckets-short b h = first-line-short then joined-short b (bucketPart ws) 319 (λ k l. part-short k (omega arith))
+      → Short (headLine (entries ws) (theta ws) (qn ws) (qd ws) (buckets ws) ++ joined b (bucketPart ws)) (maxHeadLine + b * maxBucketPart)
+  buckets-short b h = first-line-short then joined-short b (bucketPart ws) maxBucketPart (λ k l. part-short k (omega arith))
 
-  pub histogram-short : length (histogramSheet ws) ≤ 163377
+  pub histogram-short : length (histogramSheet ws) ≤ maxSheet
   unfolding histogramSheet
   histogram-short = omega (arith, roomy .few, buckets-short (buckets ws) (omega arith) .within)
 
 -- ---- a list
 
 -- its words have room
-pub room : (fs : List ℕ) (theta qn qd : ℕ) → length fs ≤ 4096 → refusal (inputSentences fs theta qn qd) ≡ 0 → Roomy (words (quality theta qn qd) fs)
+pub room : (fs : List ℕ) (theta qn qd : ℕ) → length fs ≤ maxFrequencies → refusal (inputSentences fs theta qn qd) ≡ 0 → Roomy (words (quality theta qn qd) fs)
 unfolding words
 room fs theta qn qd h e =
     let b = building .built fs theta qn qd e in
@@ -189,7 +191,7 @@ refusal-most m (s ∷ ss) h = go (s .holds) (refusal-most m ss (both-right (leb 
     go true i = leb-true (s .number) m (both-left (leb (s .number) m) (upTo m ss) h)
     go false i = i
 
-pub list-short : (fs : List ℕ) (theta qn qd : ℕ) → length fs ≤ 4096 → length (listSheet fs theta qn qd) ≤ 163377
+pub list-short : (fs : List ℕ) (theta qn qd : ℕ) → length fs ≤ maxFrequencies → length (listSheet fs theta qn qd) ≤ maxSheet
 unfolding listSheet
 list-short fs theta qn qd h = ⊎-elim none some (tested (eqb fault 0))
   where
@@ -199,12 +201,12 @@ list-short fs theta qn qd h = ⊎-elim none some (tested (eqb fault 0))
     chosen : Bool → List ℕ
     chosen t = cond t (histogramSheet (words (quality theta qn qd) fs)) (refusedLine fault)
 
-    none : eqb fault 0 ≡ true → length (chosen (eqb fault 0)) ≤ 163377
+    none : eqb fault 0 ≡ true → length (chosen (eqb fault 0)) ≤ maxSheet
     none e =
         let r = room fs theta qn qd h (eqb-true fault 0 e) in
         omega (arith, ap (λ (t : Bool). length (chosen t)) e, histogram-short (words (quality theta qn qd) fs) r)
 
-    some : eqb fault 0 ≡ false → length (chosen (eqb fault 0)) ≤ 163377
+    some : eqb fault 0 ≡ false → length (chosen (eqb fault 0)) ≤ maxSheet
     some e = omega (arith, ap (λ (t : Bool). length (chosen t)) e, refused-short fault (omega (arith, refusal-most 5 (inputSentences fs theta qn qd) refl)) .within)
 
 -- ---- lent bytes

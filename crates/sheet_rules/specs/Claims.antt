@@ -6,8 +6,9 @@ use mathlib.Core.List.{List, [], _∷_, _++_}
 use Prim.Native.Nat.{ℕ, _+_, _-_, _^_, _≤_, _<_}
 use lib.Dec.{ltb}
 use lib.ListN.{length, take, drop}
+use Rattle.sheet_rules.specs.Limits.{leastNumbers, mostNumbers, maxInput, maxSheet}
 use Rattle.sheet_rules.specs.Text.{places, decimal}
-use Rattle.sheet_rules.specs.Input.{lineFeed, every, leastNumbers, mostNumbers, asDescribed, numbers}
+use Rattle.sheet_rules.specs.Input.{lineFeed, every, asDescribed, numbers}
 use Rattle.sheet_rules.specs.Lines.{refusedLine}
 use Rattle.sheet_rules.specs.Sheet.{sheet, filled}
 
@@ -15,14 +16,6 @@ use Rattle.sheet_rules.specs.Sheet.{sheet, filled}
 unfoldable pub asLines : List ℕ → List ℕ
 asLines [] = []
 asLines (n ∷ ns) = decimal n ++ (lineFeed ∷ []) ++ asLines ns
-
--- the longest input: 4,099 lines of ten digits
-abbrev pub maxInput : ℕ
-maxInput = 45089
-
--- the longest sheet, counted by the longest lines
-abbrev pub maxSheet : ℕ
-maxSheet = 163377
 
 -- n has k digits: at least one, and as few as hold it
 pub record DigitCount (n k : ℕ) : Type 0 where

@@ -6,6 +6,7 @@ use Prim.Native.Nat.{ℕ, _+_, _-_, _*_, _^_}
 use lib.Dec.{ltb, eqb}
 use lib.ListN.{length, getD}
 use Rattle.laws.specs.Between.{between}
+use Rattle.sheet_rules.specs.Limits.{leastNumbers, mostNumbers}
 
 abbrev pub lineFeed : ℕ
 lineFeed = 10
@@ -59,13 +60,6 @@ allNumerals ls = every numeral (ls .ended) && eqb (length (ls .rest)) 0
 -- the numbers of the lines
 unfoldable pub numbers : List ℕ → List ℕ
 numbers input = map value (lines input .ended)
-
--- theta, qn and qd, then 1 to 4,096 frequencies
-abbrev pub leastNumbers : ℕ
-leastNumbers = 4
-
-abbrev pub mostNumbers : ℕ
-mostNumbers = 4099
 
 unfoldable pub asDescribed : List ℕ → Bool
 asDescribed input = allNumerals (lines input) && between leastNumbers mostNumbers (length (numbers input))

@@ -1,4 +1,5 @@
 pub mod Text
+pub mod Limits
 pub mod Input
 pub mod Lines
 pub mod Sheet

@@ -1,4 +1,4 @@
--- Laws of a whole sheet: what the builder answers with room for 512 buckets, and what the numbers of an input are.
+-- Laws of a whole sheet: what the builder answers with room for the longest list's histogram, and what the numbers of an input are.
 -- Assumes nothing.
 use mathlib.Core.Path.{_≡_, refl, sym, ap, _∙_}
 use mathlib.Core.Bool.{Bool, true, false, cond}
@@ -20,7 +20,8 @@ use Rattle.words_rules.proofs.Proved.{histogram}
 use Rattle.build_rules.specs.Words.{words}
 use Rattle.list_rules.specs.Quality.{quality, inputSentences}
 use Rattle.build_rules.specs.Building.{buildSentences, buildFault, buildReply, written}
-use Rattle.sheet_rules.specs.Input.{mostNumbers, asDescribed, numbers}
+use Rattle.sheet_rules.specs.Limits.{maxFrequencies, leastNumbers, mostNumbers, maxSheetWords}
+use Rattle.sheet_rules.specs.Input.{asDescribed, numbers}
 use Rattle.sheet_rules.specs.Lines.{refusedLine}
 use Rattle.sheet_rules.specs.Sheet.{histogramSheet, listSheet, numbersSheet, sheet, filled}
 use Rattle.sheet_rules.specs.Private.Room.{Roomy}
@@ -45,7 +46,7 @@ reply-fault fault v = ⊎-elim none some (tested (eqb fault 0))
     some : eqb fault 0 ≡ false → answer (eqb fault 0) .refusal ≡ fault
     some t = ap (λ (x : Bool). answer x .refusal) t
 
-module _ (fs : List ℕ) (theta qn qd : ℕ) (short : length fs ≤ 4096) where
+module _ (fs : List ℕ) (theta qn qd : ℕ) (short : length fs ≤ maxFrequencies) where
   abbrev ws : List ℕ
   ws = words (quality theta qn qd) fs
 
@@ -53,42 +54,42 @@ module _ (fs : List ℕ) (theta qn qd : ℕ) (short : length fs ≤ 4096) where
   fault = refusal (inputSentences fs theta qn qd)
 
   -- where nothing is refused the words have room
-  words-length : fault ≡ 0 → length ws ≤ 2564
+  words-length : fault ≡ 0 → length ws ≤ maxSheetWords
   words-length e = let r = room fs theta qn qd short e in omega (arith, r .few, histogram .limits ws (r .readable) .words)
 
-  fault-is : buildFault fs theta qn qd 2564 ≡ fault
+  fault-is : buildFault fs theta qn qd maxSheetWords ≡ fault
   unfolding buildFault refusal numbered
   fault-is = ⊎-elim none some (tested (eqb fault 0))
     where
       last : List Sentence
-      last = record { number = 6; holds = ltb 2564 (length ws) } ∷ []
+      last = record { number = 6; holds = ltb maxSheetWords (length ws) } ∷ []
 
-      none : eqb fault 0 ≡ true → refusal (buildSentences fs theta qn qd 2564) ≡ fault
+      none : eqb fault 0 ≡ true → refusal (buildSentences fs theta qn qd maxSheetWords) ≡ fault
       none t =
           let e = eqb-true fault 0 t in
           append-passed (inputSentences fs theta qn qd) last refl e
-          ∙ ap (λ (h : Bool). cond h 6 0) (le-ltb 2564 (length ws) (words-length e))
+          ∙ ap (λ (h : Bool). cond h 6 0) (le-ltb maxSheetWords (length ws) (words-length e))
           ∙ sym e
 
-      some : eqb fault 0 ≡ false → refusal (buildSentences fs theta qn qd 2564) ≡ fault
+      some : eqb fault 0 ≡ false → refusal (buildSentences fs theta qn qd maxSheetWords) ≡ fault
       some t = append-refused (inputSentences fs theta qn qd) last refl (eqb-false fault 0 t)
 
-  reply-refusal : buildReply fs theta qn qd 2564 .refusal ≡ fault
+  reply-refusal : buildReply fs theta qn qd maxSheetWords .refusal ≡ fault
   unfolding buildReply
-  reply-refusal = reply-fault (buildFault fs theta qn qd 2564) (length ws) ∙ fault-is
+  reply-refusal = reply-fault (buildFault fs theta qn qd maxSheetWords) (length ws) ∙ fault-is
 
   -- where nothing is refused it answers with the number of words
-  reply-value : fault ≡ 0 → buildReply fs theta qn qd 2564 .value ≡ length ws
+  reply-value : fault ≡ 0 → buildReply fs theta qn qd maxSheetWords .value ≡ length ws
   unfolding buildReply
   reply-value e =
-      ap (λ (t : Bool). cond t (answered (length ws)) (refused (buildFault fs theta qn qd 2564)) .value)
-      (eq-eqb (buildFault fs theta qn qd 2564) 0 (fault-is ∙ e))
+      ap (λ (t : Bool). cond t (answered (length ws)) (refused (buildFault fs theta qn qd maxSheetWords)) .value)
+      (eq-eqb (buildFault fs theta qn qd maxSheetWords) 0 (fault-is ∙ e))
 
-  pub refused-number : (number : ℕ) → refused number ≡ buildReply fs theta qn qd 2564 → number ≤ 5
+  pub refused-number : (number : ℕ) → refused number ≡ buildReply fs theta qn qd maxSheetWords → number ≤ 5
   refused-number number e = omega (arith, ap (λ (r : Reply). r .refusal) e ∙ reply-refusal, refusal-most 5 (inputSentences fs theta qn qd) refl)
 
   -- it is refused with the number that is printed
-  pub refused-sheet : (number : ℕ) → refused number ≡ buildReply fs theta qn qd 2564 → refusedLine number ≡ listSheet fs theta qn qd
+  pub refused-sheet : (number : ℕ) → refused number ≡ buildReply fs theta qn qd maxSheetWords → refusedLine number ≡ listSheet fs theta qn qd
   unfolding listSheet
   refused-sheet number e =
       let same : number ≡ fault = ap (λ (r : Reply). r .refusal) e ∙ reply-refusal in
@@ -96,21 +97,21 @@ module _ (fs : List ℕ) (theta qn qd : ℕ) (short : length fs ≤ 4096) where
       let not-zero : fault ≡ 0 → ⊥ = λ z. omega (arith, some-words z, ap (λ (r : Reply). r .value) e ∙ reply-value z) in
       ap refusedLine same ∙ ap (λ (t : Bool). cond t (histogramSheet ws) (refusedLine fault)) (sym (ne-eqb fault 0 not-zero))
 
-  module _ (n : ℕ) (e : answered n ≡ buildReply fs theta qn qd 2564) where
+  module _ (n : ℕ) (e : answered n ≡ buildReply fs theta qn qd maxSheetWords) where
     no-fault : fault ≡ 0
     no-fault = sym (ap (λ (r : Reply). r .refusal) e ∙ reply-refusal)
 
     count-is : n ≡ length ws
     count-is = ap (λ (r : Reply). r .value) e ∙ reply-value no-fault
 
-    pub count-room : n ≤ 2564
+    pub count-room : n ≤ maxSheetWords
     count-room = omega (arith, count-is, words-length no-fault)
 
-    pub words-are : (old new : List ℕ) → length old ≡ 2564 → new ≡ written fs theta qn qd old → take n new ≡ words (quality theta qn qd) fs
+    pub words-are : (old new : List ℕ) → length old ≡ maxSheetWords → new ≡ written fs theta qn qd old → take n new ≡ words (quality theta qn qd) fs
     unfolding written
     words-are old new l w =
         ap (take n) (w ∙ ap (λ (t : Bool). cond t (ws ++ drop (length ws) old) old)
-        (ap (λ (k : ℕ). eqb (buildFault fs theta qn qd k) 0) l ∙ eq-eqb (buildFault fs theta qn qd 2564) 0 (fault-is ∙ no-fault)))
+        (ap (λ (k : ℕ). eqb (buildFault fs theta qn qd k) 0) l ∙ eq-eqb (buildFault fs theta qn qd maxSheetWords) 0 (fault-is ∙ no-fault)))
         ∙ take-at ws (drop (length ws) old) n (sym count-is)
 
     pub words-room : Roomy (words (quality theta qn qd) fs)
@@ -157,7 +158,7 @@ module _ (input : List ℕ) (r : Numbers) (e : r ≡ inputNumbers input) where
     numbers-are : take (r .count) (r .values) ≡ numbers input
     numbers-are = ap (λ (x : Numbers). take (x .count) (x .values)) (by-described true described) ∙ padded-front mostNumbers (numbers input)
 
-    pub count-many : (4 ≤ r .count) × (r .count ≤ 4099)
+    pub count-many : (leastNumbers ≤ r .count) × (r .count ≤ mostNumbers)
     count-many =
         let c = ap (λ (x : Numbers). x .count) (by-described true described) in
         let m = numbers-many input described in
@@ -168,7 +169,7 @@ module _ (input : List ℕ) (r : Numbers) (e : r ≡ inputNumbers input) where
         let all : 3 + (r .count - 3) ≡ r .count = omega (arith, count-many .0) in
         part-of-front 3 (r .count - 3) (r .values) ∙ ap (λ (k : ℕ). drop 3 (take k (r .values))) all ∙ ap (drop 3) numbers-are
 
-    number-at : (k : ℕ) → k < 4 → getD (r .values) k 0 ≡ getD (numbers input) k 0
+    number-at : (k : ℕ) → k < leastNumbers → getD (r .values) k 0 ≡ getD (numbers input) k 0
     number-at k h = sym (getD-take (r .count) (r .values) k 0 (omega (arith, count-many .0))) ∙ ap (λ (l : List ℕ). getD l k 0) numbers-are
 
     pub read-sheet : listSheet (take (r .count - 3) (drop 3 (r .values))) (getD (r .values) 0 0) (getD (r .values) 1 0) (getD (r .values) 2 0) ≡ sheet input

@@ -2,18 +2,20 @@
 
 use counts::Meaning;
 use sheet_lines::Line;
+use sheet_rules::SHEET_BYTES;
 use words_rules::Bucket;
 ghost use mathlib.Core.Path.{_≡_};
-ghost use Prim.Native.Nat.{_+_, _≤_, _<_};
+ghost use Prim.Native.Nat.{_+_, _*_, _≤_, _<_};
 ghost use lib.ListN.{take};
 ghost use Rattle.words_rules.specs.Words.{buckets};
 ghost use Rattle.words_rules.specs.Decoded.{bucketletStart};
+ghost use Rattle.sheet_rules.specs.Limits.{maxBucketletLine, maxBucketPart, lineBytes, sheetBytes};
 ghost use Rattle.sheet_rules.specs.Sheet.{joined, bucketletPart, bucketPart, histogramSheet};
 ghost use Rattle.sheet_rules.specs.Private.Room.{Roomy, Printable};
-ghost use Rattle.sheet_text.specs.Private.Printing.{room, Put};
+ghost use Rattle.sheet_text.specs.Private.Printing.{Put};
 
-pub(crate) fn put(line: Line, out: &mut [u8; 163840], at: usize) -> usize
-    requires { ⌜ (line .length ≤ 80) × (at + line .length ≤ room) ⌝ }
+pub(crate) fn put(line: Line, out: &mut [u8; SHEET_BYTES], at: usize) -> usize
+    requires { ⌜ (line .length ≤ lineBytes) × (at + line .length ≤ sheetBytes) ⌝ }
     ensures { λ r. ⌜ Put (now (out .entry)) (now (out .exit)) at r (take (line .length) (line .bytes)) ⌝ }
 {
     let bytes = line.bytes;
@@ -27,8 +29,14 @@ pub(crate) fn put(line: Line, out: &mut [u8; 163840], at: usize) -> usize
 }
 
 // Bucketlet k, which starts at an entry; nothing if it is empty.
-fn put_bucketlet(bucket: Bucket, k: usize, start: u32, out: &mut [u8; 163840], at: usize) -> usize
-    requires { ⌜ Printable bucket × (k < 8) × (start ≡ bucketletStart bucket k) × (at + 35 ≤ room) ⌝ }
+fn put_bucketlet(
+    bucket: Bucket,
+    k: usize,
+    start: u32,
+    out: &mut [u8; SHEET_BYTES],
+    at: usize,
+) -> usize
+    requires { ⌜ Printable bucket × (k < 8) × (start ≡ bucketletStart bucket k) × (at + maxBucketletLine ≤ sheetBytes) ⌝ }
     ensures { λ r. ⌜ Put (now (out .entry)) (now (out .exit)) at r (bucketletPart bucket k) ⌝ }
 {
     let width = bucket.widths[k];
@@ -46,8 +54,8 @@ fn put_bucketlet(bucket: Bucket, k: usize, start: u32, out: &mut [u8; 163840], a
     )
 }
 
-fn put_bucketlets(bucket: Bucket, out: &mut [u8; 163840], from: usize) -> usize
-    requires { ⌜ Printable bucket × (from + 280 ≤ room) ⌝ }
+fn put_bucketlets(bucket: Bucket, out: &mut [u8; SHEET_BYTES], from: usize) -> usize
+    requires { ⌜ Printable bucket × (from + 8 * maxBucketletLine ≤ sheetBytes) ⌝ }
     ensures { λ r. ⌜ Put (now (out .entry)) (now (out .exit)) from r (joined 8 (bucketletPart bucket)) ⌝ }
 {
     let mut at = from;
@@ -60,8 +68,8 @@ fn put_bucketlets(bucket: Bucket, out: &mut [u8; 163840], from: usize) -> usize
 }
 
 // Bucket b and its bucketlets.
-fn put_bucket(words: &[u32], b: usize, out: &mut [u8; 163840], at: usize) -> usize
-    requires { ⌜ Roomy (now words) × (b < buckets (now words)) × (at + 319 ≤ room) ⌝ }
+fn put_bucket(words: &[u32], b: usize, out: &mut [u8; SHEET_BYTES], at: usize) -> usize
+    requires { ⌜ Roomy (now words) × (b < buckets (now words)) × (at + maxBucketPart ≤ sheetBytes) ⌝ }
     ensures { λ r. ⌜ Put (now (out .entry)) (now (out .exit)) at r (bucketPart (now (words .entry)) b) ⌝ }
 {
     let bucket = words::bucket_at(words, b);
@@ -79,7 +87,7 @@ fn put_bucket(words: &[u32], b: usize, out: &mut [u8; 163840], at: usize) -> usi
 }
 
 // The head and all buckets.
-pub(crate) fn put_histogram(words: &[u32], out: &mut [u8; 163840]) -> usize
+pub(crate) fn put_histogram(words: &[u32], out: &mut [u8; SHEET_BYTES]) -> usize
     requires { ⌜ Roomy (now words) ⌝ }
     ensures { λ r. ⌜ Put (now (out .entry)) (now (out .exit)) 0 r (histogramSheet (now (words .entry))) ⌝ }
 {

@@ -6,22 +6,11 @@ use native.Mathlib.Omega.{arith}
 use borrow.Author.Needs.{needs}
 use lib.ListN.{length, length-replicate}
 use lib.Seq.{length-take-le}
+use Rattle.sheet_rules.specs.Limits.{sheetBytes}
 use Rattle.sheet_rules.proofs.SheetLaws.{filled-length}
 use Rattle.sheet_rules.proofs.Proved.{exam}
 use Rattle.sheet.proofs.main.Statement.{statement}
 use Rattle.sheet.proofs.main.Tie as tie
-
-slice-aggregate-read-all : tie.Need-slice-aggregate-read-all
-slice-aggregate-read-all c = search needs
-
-slice-aggregate-write-all : tie.Need-slice-aggregate-write-all
-slice-aggregate-write-all c = search needs
-
-write-all-requires : tie.Need-write-all-requires
-write-all-requires c κs = search needs
-
-returns : tie.Need-returns
-returns c = search needs
 
 array-share-prefix-space : tie.Need-array-share-prefix-space
 array-share-prefix-space c = search needs
@@ -33,7 +22,7 @@ slice-aggregate-put-sheet c = let r = c .before .before .before .read-all in sym
 printed-within : (c : tie.After-put-sheet) → c .put-sheet .result ≤ length (c .put-sheet .last .1 .0)
 printed-within c =
     let l = c .put-sheet in
-    let all : length (l .last .1 .0) ≡ 163840 = ap length (l .ensures .1) ∙ filled-length _ _ ∙ length-replicate {A = ℕ} 163840 0 in
+    let all : length (l .last .1 .0) ≡ sheetBytes = ap length (l .ensures .1) ∙ filled-length _ _ ∙ length-replicate {A = ℕ} sheetBytes 0 in
     subst⁻¹ (λ (k : ℕ). k ≤ length (l .last .1 .0)) (l .ensures .0) (le-trans (exam .short _) (omega (arith, all)))
 
 array-share-prefix-out : tie.Need-array-share-prefix-out
@@ -42,37 +31,22 @@ array-share-prefix-out c = printed-within c
 slice-aggregate-write-all-2 : tie.Need-slice-aggregate-write-all-2
 slice-aggregate-write-all-2 c = let l = c .before .put-sheet in sym (length-take-le (l .result) (l .last .1 .0) (printed-within (c .before)))
 
-write-all-requires-2 : tie.Need-write-all-requires-2
-write-all-requires-2 c κs = search needs
-
-slice-aggregate-write-all-3 : tie.Need-slice-aggregate-write-all-3
-slice-aggregate-write-all-3 c = search needs
-
-write-all-requires-3 : tie.Need-write-all-requires-3
-write-all-requires-3 c κs = search needs
-
-returns-2 : tie.Need-returns-2
-returns-2 c = search needs
-
-returns-3 : tie.Need-returns-3
-returns-3 c = search needs
-
 pub main-spec : {M : Type 1} → statement M
 main-spec =
     tie.close
     (tie.spec
-    slice-aggregate-read-all
+    (λ c. search needs)
     (λ c κs. search needs)
-    slice-aggregate-write-all
-    write-all-requires
-    returns
+    (λ c. search needs)
+    (λ c κs. search needs)
+    (λ c. search needs)
     array-share-prefix-space
     slice-aggregate-put-sheet
     (λ c κs. search needs)
     array-share-prefix-out
     slice-aggregate-write-all-2
-    write-all-requires-2
-    slice-aggregate-write-all-3
-    write-all-requires-3
-    returns-2
-    returns-3)
+    (λ c κs. search needs)
+    (λ c. search needs)
+    (λ c κs. search needs)
+    (λ c. search needs)
+    (λ c. search needs))

@@ -1,11 +1,11 @@
 -- `sheet::read_all` meets its contract: no more bytes are counted than there is space. Assumes nothing.
 use mathlib.Core.Path.{_≡_, refl, _∙_}
-use Prim.Native.Nat.{_-_, _≤_}
+use Prim.Native.Nat.{_+_, _-_, _≤_}
 use native.Mathlib.Omega.{arith}
 use borrow.Author.Needs.{needs}
 use lib.ListN.{length, take, drop, length-drop}
 use lib.Seq.{length-take-le}
-use borrow.Rule.Slice.PartMut.{same-len-mid}
+use borrow.Rule.Slice.PartMut.{putMid, same-len-mid}
 use Rattle.sheet.proofs.read_all.Statement.{statement}
 use Rattle.sheet.proofs.read_all.Tie as tie
 
@@ -27,30 +27,26 @@ part-read-once-start c = search needs
 part-read-once-end : tie.Need-part-read-once-end Inv-loop μ-loop
 part-read-once-end c = search needs
 
-add-count : tie.Need-add-count Inv-loop μ-loop
-add-count c =
-    let l = c .before .before .before .before .before .before .before .before .loop in
-    let r = c .before .before .before .before .before .read-once in
+-- what is read is no more than there was left, and the space keeps its length
+read : (c : tie.After-space Inv-loop μ-loop) → let l = c .before .before .before .before .loop in let r = c .before .read-once in
+    (l .count + r .result .count ≤ length (l .space)) × (length (putMid (l .count) (length (l .space) - l .count) (l .space) (r .last .0)) ≡ length (l .space))
+read c =
+    let l = c .before .before .before .before .loop in
+    let r = c .before .read-once in
     let left = length-take-le (length (l .space) - l .count) (drop (l .count) (l .space)) (omega (arith, length-drop (l .count) (l .space))) in
-    let same : length (r .last .0) ≡ length (take (length (l .space) - l .count) (drop (l .count) (l .space))) = omega (arith, c .before .before .before .before .space .given, left) in
-    omega (arith, r .ensures, same, left)
+    let same : length (r .last .0) ≡ length (take (length (l .space) - l .count) (drop (l .count) (l .space))) = omega (arith, c .space .given, left) in
+    (omega (arith, r .ensures, same, left), same-len-mid (l .count) (length (l .space) - l .count) (l .space) (r .last .0) same)
+
+add-count : tie.Need-add-count Inv-loop μ-loop
+add-count c = omega (arith, read (c .before .before .before .before) .0)
 
 loop-less : tie.Need-loop-less Inv-loop μ-loop
-loop-less c =
-    let l = c .before .before .before .before .before .before .before .before .loop in
-    let r = c .before .before .before .before .before .read-once in
-    let left = length-take-le (length (l .space) - l .count) (drop (l .count) (l .space)) (omega (arith, length-drop (l .count) (l .space))) in
-    let same : length (r .last .0) ≡ length (take (length (l .space) - l .count) (drop (l .count) (l .space))) = omega (arith, c .before .before .before .before .space .given, left) in
-    omega (arith, r .ensures, same, left, same-len-mid (l .count) (length (l .space) - l .count) (l .space) (r .last .0) same)
+loop-less c = let r = read (c .before .before .before .before) in omega (arith, r .0, r .1)
 
 loop-again : tie.Need-loop-again Inv-loop μ-loop
 loop-again c =
-    let l = c .before .before .before .before .before .before .before .before .loop in
-    let r = c .before .before .before .before .before .read-once in
-    let left = length-take-le (length (l .space) - l .count) (drop (l .count) (l .space)) (omega (arith, length-drop (l .count) (l .space))) in
-    let same : length (r .last .0) ≡ length (take (length (l .space) - l .count) (drop (l .count) (l .space))) = omega (arith, c .before .before .before .before .space .given, left) in
-    let kept = same-len-mid (l .count) (length (l .space) - l .count) (l .space) (r .last .0) same in
-    (omega (arith, r .ensures, same, left, kept), kept ∙ l .inv .1)
+    let r = read (c .before .before .before .before) in
+    (omega (arith, r .0, r .1), r .1 ∙ c .before .before .before .before .before .before .before .before .loop .inv .1)
 
 returns : tie.Need-returns Inv-loop μ-loop
 returns c = search needs

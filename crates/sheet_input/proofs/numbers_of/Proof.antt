@@ -22,24 +22,12 @@ loop-holds c = begun-none (c .before .args .input .now)
 line-at-requires : tie.Need-line-at-requires Inv-loop μ-loop
 line-at-requires c κs = search needs
 
-enum-known-value : tie.Need-enum-known-value Inv-loop μ-loop
-enum-known-value c = search needs
-
-enum-told : tie.Need-enum-told Inv-loop μ-loop
-enum-told c = search needs
-
-refused-requires : tie.Need-refused-requires Inv-loop μ-loop
-refused-requires c κs = search needs
-
 returns : tie.Need-returns Inv-loop μ-loop
 returns c =
     let a = c .before .before .before .before .before .before .before .args in
     let l = c .before .before .before .before .before .loop in
     let broken = subst (LineAt (a .input .now) (l .start)) (c .before .enum-told .given .1) (c .before .before .before .line-at .ensures) in
     refused-numbers (a .input .now) (c .refused .result) (c .refused .ensures) (broken-line (a .input .now) (l .values) (l .n) (l .start) (l .inv) broken)
-
-refused-requires-2 : tie.Need-refused-requires-2 Inv-loop μ-loop
-refused-requires-2 c κs = search needs
 
 returns-2 : tie.Need-returns-2 Inv-loop μ-loop
 returns-2 c =
@@ -50,14 +38,8 @@ returns-2 c =
     refused-numbers (a .input .now) (c .refused2 .result) (c .refused2 .ensures)
     (too-many (a .input .now) (l .values) (l .n) (l .start) (l .inv) (v .0) (v .1 .0) (omega arith) stepped)
 
-mul-values : tie.Need-mul-values Inv-loop μ-loop
-mul-values c = search needs
-
 array-write-values : tie.Need-array-write-values Inv-loop μ-loop
 array-write-values c = search needs
-
-add-n : tie.Need-add-n Inv-loop μ-loop
-add-n c = search needs
 
 loop-less : tie.Need-loop-less Inv-loop μ-loop
 loop-less c =
@@ -75,9 +57,6 @@ loop-again c =
     let more : l .n + 1 ≡ suc (l .n) = omega arith in
     subst⁻¹ (λ (n : ℕ). Begun (a .input .now) (set (l .values) (l .n) (v .0)) n (v .1 .0)) more
     (begun-more (a .input .now) (l .values) (l .n) (l .start) (l .inv) (v .0) (v .1 .0) (omega (arith, l .inv .many)) stepped)
-
-refused-requires-3 : tie.Need-refused-requires-3 Inv-loop μ-loop
-refused-requires-3 c κs = search needs
 
 returns-3 : tie.Need-returns-3 Inv-loop μ-loop
 returns-3 c =
@@ -100,17 +79,17 @@ numbers-of-spec =
     μ-loop
     loop-holds
     line-at-requires
-    enum-known-value
-    enum-told
-    refused-requires
+    (λ c. search needs)
+    (λ c. search needs)
+    (λ c κs. search needs)
     returns
-    refused-requires-2
+    (λ c κs. search needs)
     returns-2
-    mul-values
+    (λ c. search needs)
     array-write-values
-    add-n
+    (λ c. search needs)
     loop-less
     loop-again
-    refused-requires-3
+    (λ c κs. search needs)
     returns-3
     returns-4)

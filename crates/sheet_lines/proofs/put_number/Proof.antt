@@ -6,7 +6,7 @@ use borrow.Author.Needs.{needs}
 use lib.Seq.{sets}
 use Rattle.sheet_rules.specs.Text.{digits, places, decimal}
 use Rattle.sheet_rules.proofs.TextLaws.{decimal-length, places-few}
-use Rattle.sheet_lines.specs.Private.Digits.{maxDigits}
+use Rattle.sheet_rules.specs.Limits.{maxDigits}
 use Rattle.sheet_lines.proofs.PutLaws.{digit-put}
 use Rattle.sheet_lines.proofs.put_number.Statement.{statement}
 use Rattle.sheet_lines.proofs.put_number.Tie as tie
@@ -16,9 +16,6 @@ Inv-loop bytes₀ at n k rest₀ i₀ bytes rest i = (i ≤ maxDigits) × (sets 
 
 abbrev μ-loop : tie.MeasureT-loop
 μ-loop bytes₀ at n k rest₀ i₀ bytes rest i = i
-
-digit-count-requires : tie.Need-digit-count-requires Inv-loop μ-loop
-digit-count-requires c κs = search needs
 
 -- a number of 32 bits has at most ten digits
 few : (n : ℕ) → n < 2 ^ 32 → places n ≤ maxDigits
@@ -44,9 +41,6 @@ add-bytes-2 c = omega (arith, c .before .loop .inv .0)
 
 element-write-bytes : tie.Need-element-write-bytes Inv-loop μ-loop
 element-write-bytes c = omega (arith, c .before .loop .inv .0)
-
-loop-less : tie.Need-loop-less Inv-loop μ-loop
-loop-less c = omega arith
 
 loop-again : tie.Need-loop-again Inv-loop μ-loop
 loop-again c =
@@ -80,14 +74,14 @@ put-number-spec =
     (tie.spec
     Inv-loop
     μ-loop
-    digit-count-requires
+    (λ c κs. search needs)
     loop-holds
     sub-i
     cast-bytes
     add-bytes
     add-bytes-2
     element-write-bytes
-    loop-less
+    (λ c. omega arith)
     loop-again
     add-result
     returns)

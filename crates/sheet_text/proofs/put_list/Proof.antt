@@ -1,4 +1,4 @@
--- `sheet_text::put_list` meets its contract: the builder has room for 512 buckets, so that it refuses only what the definition does. Assumes nothing.
+-- `sheet_text::put_list` meets its contract: the builder has room for the longest histogram, so that it refuses only what the definition does. Assumes nothing.
 use mathlib.Core.Path.{_≡_, refl, sym, ap, _∙_, subst, subst⁻¹}
 use Prim.Native.Nat.{ℕ, _≤_}
 use native.Mathlib.Omega.{arith}
@@ -6,6 +6,7 @@ use borrow.Author.Needs.{needs}
 use lib.ListN.{length}
 use lib.Seq.{length-take-le}
 use Rattle.builder.specs.Built.{builtReply}
+use Rattle.sheet_rules.specs.Limits.{maxSheetWords}
 use Rattle.sheet_rules.specs.Private.Room.{Roomy}
 use Rattle.sheet_rules.specs.Sheet.{histogramSheet}
 use Rattle.sheet_text.specs.Private.Printing.{Put}
@@ -14,21 +15,12 @@ use Rattle.sheet_text.proofs.ListLaws.{refused-number, refused-sheet, c
 use Rattle.sheet_text.proofs.put_list.Statement.{statement}
 use Rattle.sheet_text.proofs.put_list.Tie as tie
 
-slice-aggregate-build : tie.Need-slice-aggregate-build
-slice-aggregate-build c = search needs
-
-build-requires : tie.Need-build-requires
-build-requires c κs = search needs
-
-enum-known-built : tie.Need-enum-known-built
-enum-known-built c = search needs
-
 array-share-prefix-words : tie.Need-array-share-prefix-words
 array-share-prefix-words c =
     let s = c .before .before .before .before .before .before .before in
     let b = c .before .before .before .before .build in
     let e = ap builtReply (sym (c .before .built .given .1)) ∙ b .ensures .0 in
-    let all : length (b .last .1 .1 .1 .1 .0) ≡ 2564 = search needs in
+    let all : length (b .last .1 .1 .1 .1 .0) ≡ maxSheetWords = search needs in
     subst⁻¹ (λ (m : ℕ). c .before .built .given .0 .0 ≤ m) all (count-room (s .args .freqs .now) (s .args .theta) (s .args .qn) (s .args .qd) (s .pre) _ e)
 
 slice-aggregate-put-histogram : tie.Need-slice-aggregate-put-histogram
@@ -36,7 +28,7 @@ slice-aggregate-put-histogram c =
     let s = c .before .before .before .before .before .before .before .before in
     let b = c .before .before .before .before .before .build in
     let e = ap builtReply (sym (c .before .before .built .given .1)) ∙ b .ensures .0 in
-    let all : length (b .last .1 .1 .1 .1 .0) ≡ 2564 = search needs in
+    let all : length (b .last .1 .1 .1 .1 .0) ≡ maxSheetWords = search needs in
     sym (length-take-le _ (b .last .1 .1 .1 .1 .0) (subst⁻¹ (λ (m : ℕ). c .before .before .built .given .0 .0 ≤ m) all (count-room (s .args .freqs .now) (s .args .theta) (s .args .qn) (s .args .qd) (s .pre) _ e)))
 
 put-histogram-requires : tie.Need-put-histogram-requires
@@ -46,12 +38,6 @@ put-histogram-requires c κs =
     let e = ap builtReply (sym (c .before .before .before .built .given .1)) ∙ b .ensures .0 in
     subst⁻¹ Roomy (words-are (s .args .freqs .now) (s .args .theta) (s .args .qn) (s .args .qd) (s .pre) _ e _ _ refl (b .ensures .1 .1))
     (words-room (s .args .freqs .now) (s .args .theta) (s .args .qn) (s .args .qd) (s .pre) _ e)
-
-enum-known-built-2 : tie.Need-enum-known-built-2
-enum-known-built-2 c = search needs
-
-refused-line-requires : tie.Need-refused-line-requires
-refused-line-requires c κs = search needs
 
 put-requires : tie.Need-put-requires
 put-requires c κs =
@@ -84,14 +70,14 @@ pub put-list-spec : {M : Type 1} → statement M
 put-list-spec =
     tie.close
     (tie.spec
-    slice-aggregate-build
-    build-requires
-    enum-known-built
+    (λ c. search needs)
+    (λ c κs. search needs)
+    (λ c. search needs)
     array-share-prefix-words
     slice-aggregate-put-histogram
     put-histogram-requires
-    enum-known-built-2
-    refused-line-requires
+    (λ c. search needs)
+    (λ c κs. search needs)
     put-requires
     returns
     returns-2)

@@ -6,16 +6,11 @@ use borrow.Author.Needs.{needs}
 use Prim.Native.Nat.{_-_}
 use lib.ListN.{length, drop, length-drop}
 use lib.Seq.{length-take-le}
+use Rattle.sheet_rules.specs.Limits.{mostNumbers}
 use Rattle.sheet_text.proofs.PrintLaws.{put-line, refused-room}
 use Rattle.sheet_text.proofs.ListLaws.{refused-small, refused-input, count-many, read-sheet, put-sheet}
 use Rattle.sheet_text.proofs.put_sheet.Statement.{statement}
 use Rattle.sheet_text.proofs.put_sheet.Tie as tie
-
-numbers-of-requires : tie.Need-numbers-of-requires
-numbers-of-requires c κs = search needs
-
-refused-line-requires : tie.Need-refused-line-requires
-refused-line-requires c κs = search needs
 
 put-requires : tie.Need-put-requires
 put-requires c κs =
@@ -54,13 +49,13 @@ part-put-list-start c =
 part-put-list-end : tie.Need-part-put-list-end
 part-put-list-end c =
     let r = c .before .before .before .before .numbers-of in
-    let all : length (r .result .values) ≡ 4099 = search needs in
+    let all : length (r .result .values) ≡ mostNumbers = search needs in
     omega (arith, all, count-many _ (r .result) (r .ensures) (omega arith) .1)
 
 put-list-requires : tie.Need-put-list-requires
 put-list-requires c κs =
     let r = c .before .before .before .before .before .before .numbers-of in
-    let all : length (r .result .values) ≡ 4099 = search needs in
+    let all : length (r .result .values) ≡ mostNumbers = search needs in
     let many = count-many _ (r .result) (r .ensures) (omega arith) in
     omega (
       arith,
@@ -78,8 +73,8 @@ pub put-sheet-spec : {M : Type 1} → statement M
 put-sheet-spec =
     tie.close
     (tie.spec
-    numbers-of-requires
-    refused-line-requires
+    (λ c κs. search needs)
+    (λ c κs. search needs)
     put-requires
     returns
     array-read-theta

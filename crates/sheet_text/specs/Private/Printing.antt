@@ -6,10 +6,6 @@ use Prim.Native.Nat.{ℕ, _+_}
 use lib.ListN.{length}
 use lib.Seq.{sets}
 
--- the bytes that are lent
-abbrev pub room : ℕ
-room = 163840
-
 -- the text is put at a place, and ends at another
 pub record Put (old new : List ℕ) (at end : ℕ) (text : List ℕ) : Type 0 where
   pub bytes : new ≡ sets old at text

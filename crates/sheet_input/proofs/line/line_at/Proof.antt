@@ -46,9 +46,6 @@ returns-2 c =
     subst⁻¹ (λ (n : ℕ). Stepped (a .input .now) (a .start) (l .value) n) more
     (ended (a .input .now) (a .start) (l .i) (l .value) (l .inv) (getD (a .input .now) (l .i) 0) refl (omega arith) (omega arith) (omega (arith, l .inv .from)))
 
-is-digit-requires : tie.Need-is-digit-requires Inv-loop μ-loop
-is-digit-requires c κs = search needs
-
 returns-3 : tie.Need-returns-3 Inv-loop μ-loop
 returns-3 c =
     let a = c .before .before .before .before .before .before .before .args in
@@ -80,12 +77,6 @@ returns-5 c =
     let a = c .before .before .before .before .before .before .before .before .before .before .before .args in
     let l = c .before .before .before .before .before .before .before .before .before .loop in
     too-large (a .input .now) (a .start) (l .i) (l .value) (l .inv) (getD (a .input .now) (l .i) 0) refl (omega arith) (λ e. omega arith) (omega (arith, c .before .with-digit .ensures))
-
-add-i : tie.Need-add-i Inv-loop μ-loop
-add-i c = search needs
-
-loop-less : tie.Need-loop-less Inv-loop μ-loop
-loop-less c = omega arith
 
 loop-again : tie.Need-loop-again Inv-loop μ-loop
 loop-again c =
@@ -120,13 +111,13 @@ line-at-spec =
     cast-t11
     add-t12
     returns-2
-    is-digit-requires
+    (λ c κs. search needs)
     returns-3
     is-zero-led-requires
     returns-4
     with-digit-requires
     returns-5
-    add-i
-    loop-less
+    (λ c. search needs)
+    (λ c. omega arith)
     loop-again
     returns-6)

@@ -27,9 +27,6 @@ put-bucketlet-requires c κs =
     let near = some-room (s .args .t1) (s .args .out .now) (l .out) (s .args .from) (l .at) (l .start) (l .k) (s .pre .0) (omega arith) (l .inv) in
     (s .pre .0, omega arith, l .inv .begins, omega (arith, near, s .pre .1))
 
-mul-start : tie.Need-mul-start Inv-loop μ-loop
-mul-start c = search needs
-
 element-copy-out-start : tie.Need-element-copy-out-start Inv-loop μ-loop
 element-copy-out-start c = search needs
 
@@ -38,12 +35,6 @@ add-start c =
     let s = c .before .before .before .before .before in
     let l = c .before .before .before .before .loop in
     omega (arith, l .inv .begins, s .pre .0 .small (suc (l .k)) (omega arith), bucketlet-end (s .args .t1) (l .k))
-
-add-k : tie.Need-add-k Inv-loop μ-loop
-add-k c = search needs
-
-loop-less : tie.Need-loop-less Inv-loop μ-loop
-loop-less c = omega arith
 
 loop-again : tie.Need-loop-again Inv-loop μ-loop
 loop-again c =
@@ -69,10 +60,10 @@ put-bucketlets-spec =
     μ-loop
     loop-holds
     put-bucketlet-requires
-    mul-start
+    (λ c. search needs)
     element-copy-out-start
     add-start
-    add-k
-    loop-less
+    (λ c. search needs)
+    (λ c. omega arith)
     loop-again
     returns)

@@ -8,7 +8,7 @@ use Rattle.sheet_rules.specs.Sheet.{joined, bucketPart}
 use Rattle.sheet_rules.proofs.SheetLaws.{first-line-short}
 use Rattle.sheet_lines.specs.Line.{lineOf}
 use Rattle.sheet_text.specs.Private.Printing.{Put}
-use Rattle.sheet_text.proofs.PrintLaws.{put-nothing, line-length, put-line, head-text, next-room, more-buckets, all-buckets}
+use Rattle.sheet_text.proofs.PrintLaws.{put-nothing, line-room, put-line, headText, head-text, next-room, more-buckets, all-buckets}
 use Rattle.sheet_text.proofs.printing.put_histogram.Statement.{statement}
 use Rattle.sheet_text.proofs.printing.put_histogram.Tie as tie
 
@@ -21,18 +21,14 @@ abbrev μ-loop : tie.MeasureT-loop
 head-at-requires : tie.Need-head-at-requires Inv-loop μ-loop
 head-at-requires c κs = search needs
 
-head-line-requires : tie.Need-head-line-requires Inv-loop μ-loop
-head-line-requires c κs = search needs
+-- the head's line is that of the definition
+line : (c : tie.After-head-line Inv-loop μ-loop) → c .head-line .result ≡ lineOf (headText (c .before .before .before .args .words .now))
+line c = let h = c .before .head-at in c .head-line .ensures ∙ ap lineOf (head-text (c .before .before .before .args .words .now) (h .result) (h .ensures))
 
 put-requires : tie.Need-put-requires Inv-loop μ-loop
 put-requires c κs =
     let s = c .before .before .before .before in
-    let h = c .before .before .head-at in
-    let l = c .before .head-line in
-    let text = l .ensures ∙ ap lineOf (head-text (s .args .words .now) (h .result) (h .ensures)) in
-    let same = line-length (l .result) _ text in
-    let short = first-line-short (s .args .words .now) (s .pre) .within in
-    (omega (arith, same, short), omega (arith, same, short))
+    line-room 0 _ (line (c .before)) (first-line-short (s .args .words .now) (s .pre)) (omega arith) (omega arith)
 
 bucket-count-requires : tie.Need-bucket-count-requires Inv-loop μ-loop
 bucket-count-requires c κs = search needs
@@ -47,19 +43,10 @@ loop-holds c = (omega arith, put-nothing _ _)
 put-bucket-requires : tie.Need-put-bucket-requires Inv-loop μ-loop
 put-bucket-requires c κs =
     let s = c .before .before .before .before .before .before .before .before .before in
-    let h = c .before .before .before .before .before .before .before .head-at in
-    let l = c .before .before .before .before .before .before .head-line in
-    let text = l .ensures ∙ ap lineOf (head-text (s .args .words .now) (h .result) (h .ensures)) in
-    let first = put-line (l .result) _ text (c .before .before .before .before .put .ensures) in
+    let first = put-line (c .before .before .before .before .before .before .head-line .result) _ (line (c .before .before .before .before .before .before)) (c .before .before .before .before .put .ensures) in
     let at = c .before .before .loop in
     let inside : at .b < buckets (s .args .words .now) = omega (arith, c .before .before .before .bucket-count .ensures) in
     (s .pre, inside, next-room (s .args .words .now) _ (at .out) (at .b) _ (at .at) (s .pre) inside (omega (arith, first .ends)) (at .inv .1))
-
-add-b : tie.Need-add-b Inv-loop μ-loop
-add-b c = search needs
-
-loop-less : tie.Need-loop-less Inv-loop μ-loop
-loop-less c = omega arith
 
 loop-again : tie.Need-loop-again Inv-loop μ-loop
 loop-again c =
@@ -76,10 +63,7 @@ loop-again c =
 returns : tie.Need-returns Inv-loop μ-loop
 returns c =
     let s = c .before .before .before .before .before .before .before .before in
-    let h = c .before .before .before .before .before .before .head-at in
-    let l = c .before .before .before .before .before .head-line in
-    let text = l .ensures ∙ ap lineOf (head-text (s .args .words .now) (h .result) (h .ensures)) in
-    let first = put-line (l .result) _ text (c .before .before .before .put .ensures) in
+    let first = put-line (c .before .before .before .before .before .head-line .result) _ (line (c .before .before .before .before .before)) (c .before .before .before .put .ensures) in
     let at = c .before .loop in
     all-buckets (s .args .words .now) (s .args .out .now) _ (at .out) (at .b) _ (at .at) (omega (arith, at .inv .0, c .before .before .bucket-count .ensures)) first (at .inv .1)
 
@@ -90,13 +74,13 @@ put-histogram-spec =
     Inv-loop
     μ-loop
     head-at-requires
-    head-line-requires
+    (λ c κs. search needs)
     put-requires
     bucket-count-requires
     cast-buckets
     loop-holds
     put-bucket-requires
-    add-b
-    loop-less
+    (λ c. search needs)
+    (λ c. omega arith)
     loop-again
     returns)
