@@ -21,7 +21,7 @@ sets-set l i [] j a h = refl
 sets-set l i (x ∷ xs) j a h =
     ap (λ (m : List ℕ). sets m (suc i) xs) (set-comm l j i a x (λ e. omega arith)) ∙ sets-set (set l i x) (suc i) xs j a (omega arith)
 
-pub sets-last : (l : List ℕ) (i : ℕ) (xs : List ℕ) (a : ℕ) → sets l i (xs ++ (a ∷ [])) ≡ sets (set l (i + length xs) a) i xs
+sets-last : (l : List ℕ) (i : ℕ) (xs : List ℕ) (a : ℕ) → sets l i (xs ++ (a ∷ [])) ≡ sets (set l (i + length xs) a) i xs
 sets-last l i xs a = sets-append l i xs (a ∷ []) ∙ sym (sets-set l i xs (i + length xs) a (omega arith))
 
 -- the last digit is put, and those before it are left to put

@@ -40,7 +40,7 @@ put-both {old} {middle} {new} {text} {more} {at} {next} {end} p q =
     }
 
 -- the line of a text is as long, and puts it
-pub line-length : (l : Line) (text : List ℕ) → l ≡ lineOf text → l .length ≡ length text
+line-length : (l : Line) (text : List ℕ) → l ≡ lineOf text → l .length ≡ length text
 unfolding lineOf
 line-length l text e = ap (λ (k : Line). k .length) e
 
