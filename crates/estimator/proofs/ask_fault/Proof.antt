@@ -9,9 +9,6 @@ use Rattle.estimate_rules.proofs.AskingLaws.{list-first, range-refused, no-faul
 use Rattle.estimator.proofs.ask_fault.Statement.{statement}
 use Rattle.estimator.proofs.ask_fault.Tie as tie
 
-read-fault-requires : tie.Need-read-fault-requires
-read-fault-requires c κs = search needs
-
 returns : tie.Need-returns
 returns c =
     let a = c .before .before .before .args in
@@ -23,9 +20,6 @@ returns-2 c =
     let a = c .before .before .before .before .args in
     let readable : Readable (a .words .now) = omega (arith, c .before .before .read-fault .ensures) in
     sym (range-refused (a .words .now) (a .x) (a .y) readable (inl (omega arith)))
-
-entry-count-requires : tie.Need-entry-count-requires
-entry-count-requires c κs = search needs
 
 returns-3 : tie.Need-returns-3
 returns-3 c =
@@ -44,4 +38,4 @@ returns-4 c =
 pub ask-fault-spec : {M : Type 1} → statement M
 ask-fault-spec =
     tie.close
-    (tie.spec read-fault-requires returns returns-2 entry-count-requires returns-3 returns-4)
+    (tie.spec (λ c κs. search needs) returns returns-2 (λ c κs. search needs) returns-3 returns-4)

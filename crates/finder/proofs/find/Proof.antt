@@ -30,15 +30,6 @@ packed-from : (ws : List ℕ) (e n at : ℕ) → answered at ≡ findReply ws e 
 packed-from ws e n at r p =
     (λ i. take (p i) (drop (place-is ws e at r i) ws)) ∙ sym (found-part ws e (place-no-fault ws e at r))
 
-find-place-requires : tie.Need-find-place-requires
-find-place-requires c κs = search needs
-
-enum-known-at : tie.Need-enum-known-at
-enum-known-at c = search needs
-
-enum-told : tie.Need-enum-told
-enum-told c = search needs
-
 sub-result : tie.Need-sub-result
 sub-result c = search needs
 
@@ -80,9 +71,9 @@ pub find-spec : {M : Type 1} → statement M
 find-spec =
     tie.close
     (tie.spec
-    find-place-requires
-    enum-known-at
-    enum-told
+    (λ c κs. search needs)
+    (λ c. search needs)
+    (λ c. search needs)
     sub-result
     part-result-start
     part-result-end

@@ -11,17 +11,11 @@ use Rattle.words_rules.proofs.EntryLaws.{fault-of-list, fault-of-entry, no-find
 use Rattle.finder.proofs.find_fault.Statement.{statement}
 use Rattle.finder.proofs.find_fault.Tie as tie
 
-read-fault-requires : tie.Need-read-fault-requires
-read-fault-requires c κs = search needs
-
 returns : tie.Need-returns
 returns c =
     let a = c .before .before .before .args in
     let r = c .before .read-fault .ensures in
     r ∙ sym (fault-of-list (a .words .now) (a .entry) (λ e. omega arith))
-
-entry-count-requires : tie.Need-entry-count-requires
-entry-count-requires c κs = search needs
 
 returns-2 : tie.Need-returns-2
 returns-2 c =
@@ -39,4 +33,4 @@ returns-3 c =
 
 pub find-fault-spec : {M : Type 1} → statement M
 find-fault-spec =
-    tie.close (tie.spec read-fault-requires returns entry-count-requires returns-2 returns-3)
+    tie.close (tie.spec (λ c κs. search needs) returns (λ c κs. search needs) returns-2 returns-3)

@@ -20,9 +20,6 @@ within c =
     let a = c .before .before .before .before .args in
     omega (arith, c .bucket-of .ensures, bucket-within (a .words .now) (a .entry) (no-fault (c .before)))
 
-find-fault-requires : tie.Need-find-fault-requires
-find-fault-requires c κs = search needs
-
 returns : tie.Need-returns
 returns c =
     let a = c .before .before .before .args in
@@ -47,4 +44,4 @@ returns-2 c =
 
 pub find-place-spec : {M : Type 1} → statement M
 find-place-spec =
-    tie.close (tie.spec find-fault-requires returns bucket-of-requires mul-t6 add-t7 returns-2)
+    tie.close (tie.spec (λ c κs. search needs) returns bucket-of-requires mul-t6 add-t7 returns-2)

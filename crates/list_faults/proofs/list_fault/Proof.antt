@@ -38,9 +38,6 @@ returns c = sym (refused _ _ (wrong-length (c .before .before .args .freqs .now)
 returns-2 : tie.Need-returns-2
 returns-2 c = sym (refused _ _ (wrong-length (c .before .before .before .args .freqs .now) (λ h l. omega arith)))
 
-has-zero-requires : tie.Need-has-zero-requires
-has-zero-requires c κs = search needs
-
 returns-3 : tie.Need-returns-3
 returns-3 c =
     let fs = c .before .before .before .before .before .args .freqs .now in
@@ -67,4 +64,4 @@ returns-5 c =
     ∙ none-left)
 
 pub list-fault-spec : {M : Type 1} → statement M
-list-fault-spec = tie.close (tie.spec returns returns-2 has-zero-requires returns-3 sum-of-requires returns-4 returns-5)
+list-fault-spec = tie.close (tie.spec returns returns-2 (λ c κs. search needs) returns-3 sum-of-requires returns-4 returns-5)

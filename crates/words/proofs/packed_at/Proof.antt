@@ -9,9 +9,6 @@ use Rattle.words_rules.specs.Words.{word, place}
 use Rattle.words.proofs.packed_at.Statement.{statement}
 use Rattle.words.proofs.packed_at.Tie as tie
 
-packed-or-zeros-requires : tie.Need-packed-or-zeros-requires
-packed-or-zeros-requires c κs = search needs
-
 returns : tie.Need-returns
 returns c = search needs
 
@@ -23,9 +20,6 @@ add-at c = search needs
 
 add-if2 : tie.Need-add-if2
 add-if2 c = search needs
-
-packed-or-zeros-requires-2 : tie.Need-packed-or-zeros-requires-2
-packed-or-zeros-requires-2 c κs = search needs
 
 returns-2 : tie.Need-returns-2
 returns-2 c = search needs
@@ -82,12 +76,12 @@ pub packed-at-spec : {M : Type 1} → statement M
 packed-at-spec =
     tie.close
     (tie.spec
-    packed-or-zeros-requires
+    (λ c κs. search needs)
     returns
     mul-at
     add-at
     add-if2
-    packed-or-zeros-requires-2
+    (λ c κs. search needs)
     returns-2
     mul-t4
     shared-slice-read-t8

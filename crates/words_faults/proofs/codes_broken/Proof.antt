@@ -42,9 +42,6 @@ mul-class-broken-2 c = omega arith
 element-copy-out-class-broken-2 : tie.Need-element-copy-out-class-broken-2 Inv-loop μ-loop
 element-copy-out-class-broken-2 c = omega arith
 
-class-broken-requires : tie.Need-class-broken-requires Inv-loop μ-loop
-class-broken-requires c κs = search needs
-
 returns : tie.Need-returns Inv-loop μ-loop
 unfolding codesBroken
 returns c =
@@ -55,16 +52,10 @@ returns c =
 add-k : tie.Need-add-k Inv-loop μ-loop
 add-k c = search needs
 
-loop-less : tie.Need-loop-less Inv-loop μ-loop
-loop-less c = search needs
-
 loop-again : tie.Need-loop-again Inv-loop μ-loop
 loop-again c =
     let k = c .before .before .before .before .before .loop in
     (search needs, below-more _ _ (k .inv .1) (sym (c .before .class-broken .ensures) ∙ c .if1 .left))
-
-is-total-code-requires : tie.Need-is-total-code-requires Inv-loop μ-loop
-is-total-code-requires c κs = search needs
 
 returns-2 : tie.Need-returns-2 Inv-loop μ-loop
 unfolding codesBroken
@@ -85,10 +76,10 @@ codes-broken-spec =
     element-copy-out-class-broken
     mul-class-broken-2
     element-copy-out-class-broken-2
-    class-broken-requires
+    (λ c κs. search needs)
     returns
     add-k
-    loop-less
+    (λ c. search needs)
     loop-again
-    is-total-code-requires
+    (λ c κs. search needs)
     returns-2)

@@ -1,20 +1,16 @@
--- `words_fields::listed_of` meets its contract, field by field by what the calls ensure.
--- Assumes nothing.
+-- `words_fields::listed_of` meets its contract: the first word lists one width, and the last two three each. Assumes nothing.
 use mathlib.Core.List.{[], _∷_}
 use borrow.Author.Needs.{needs}
+use lib.ListN.{getD}
 use Rattle.words_fields.proofs.listed_of.Statement.{statement}
 use Rattle.words_fields.proofs.listed_of.Tie as tie
 
 returns : tie.Need-returns
 returns c =
-    let e₀ = c .before .before .before .before .before .before .field-of .ensures in
-    let e₁ = c .before .before .before .before .before .field-of2 .ensures in
-    let e₂ = c .before .before .before .before .field-of3 .ensures in
-    let e₃ = c .before .before .before .field-of4 .ensures in
-    let e₄ = c .before .before .field-of5 .ensures in
-    let e₅ = c .before .field-of6 .ensures in
-    let e₆ = c .field-of7 .ensures in
-    λ i. e₀ i ∷ e₁ i ∷ e₂ i ∷ e₃ i ∷ e₄ i ∷ e₅ i ∷ e₆ i ∷ []
+    let f = c .field-of .ensures in
+    let a = c .before .before .widths-of .ensures in
+    let b = c .before .widths-of2 .ensures in
+    λ i. f i ∷ getD (a i) 0 0 ∷ getD (a i) 1 0 ∷ getD (a i) 2 0 ∷ getD (b i) 0 0 ∷ getD (b i) 1 0 ∷ getD (b i) 2 0 ∷ []
 
 pub listed-of-spec : {M : Type 1} → statement M
 listed-of-spec =
@@ -27,11 +23,9 @@ listed-of-spec =
     (λ c. search needs)
     (λ c κs. search needs)
     (λ c. search needs)
-    (λ c κs. search needs)
     (λ c. search needs)
-    (λ c κs. search needs)
     (λ c. search needs)
-    (λ c κs. search needs)
     (λ c. search needs)
-    (λ c κs. search needs)
+    (λ c. search needs)
+    (λ c. search needs)
     returns)

@@ -6,15 +6,6 @@ use Rattle.laws.proofs.FieldLaws.{of-kind, onto}
 use Rattle.words_packing.proofs.width_word.Statement.{statement}
 use Rattle.words_packing.proofs.width_word.Tie as tie
 
-put-at-requires : tie.Need-put-at-requires
-put-at-requires c κs = search needs
-
-put-at-requires-2 : tie.Need-put-at-requires-2
-put-at-requires-2 c κs = search needs
-
-put-at-requires-3 : tie.Need-put-at-requires-3
-put-at-requires-3 c κs = search needs
-
 returns : tie.Need-returns
 returns c =
     let a = c .before .before .before .args in
@@ -23,4 +14,4 @@ returns c =
     (onto (a .c) 8 0 (lit≤ tt) x (c .put-at3 .ensures)) .is
 
 pub width-word-spec : {M : Type 1} → statement M
-width-word-spec = tie.close (tie.spec put-at-requires put-at-requires-2 put-at-requires-3 returns)
+width-word-spec = tie.close (tie.spec (λ c κs. search needs) (λ c κs. search needs) (λ c κs. search needs) returns)

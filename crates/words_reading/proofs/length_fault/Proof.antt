@@ -12,9 +12,6 @@ use Rattle.words_rules.specs.Reading.{lengthFault}
 use Rattle.words_reading.proofs.length_fault.Statement.{statement}
 use Rattle.words_reading.proofs.length_fault.Tie as tie
 
-bucket-count-requires : tie.Need-bucket-count-requires
-bucket-count-requires c κs = search needs
-
 cast-result : tie.Need-cast-result
 cast-result c = search needs
 
@@ -31,4 +28,4 @@ returns c =
     ap (λ (n : ℕ). not (eqb (length ws) n)) {y = 4 + 5 * buckets ws} (omega (arith, c .bucket-count .ensures))
 
 pub length-fault-spec : {M : Type 1} → statement M
-length-fault-spec = tie.close (tie.spec bucket-count-requires cast-result mul-result add-result returns)
+length-fault-spec = tie.close (tie.spec (λ c κs. search needs) cast-result mul-result add-result returns)

@@ -17,15 +17,6 @@ use Rattle.builder.proofs.bucket.class_for.Tie as tie
 returns : tie.Need-returns
 returns c = let a = c .before .args in chosen (eqb (a .w) 0) 0 (classOf base (a .count)) (eq-eqb (a .w) 0 (omega arith))
 
-class-of-requires : tie.Need-class-of-requires
-class-of-requires c κs = search needs
-
-enum-known-class : tie.Need-enum-known-class
-enum-known-class c = search needs
-
-enum-told : tie.Need-enum-told
-enum-told c = search needs
-
 -- the reply of the call
 reply : (c : tie.After-class-of) → let r = codedReply (c .class-of .result) in (r .refusal ≡ 0) × (r .value ≡ classOf base (c .before .before .args .count))
 reply c =
@@ -44,4 +35,4 @@ returns-3 c =
     ∙ not-chosen (eqb (a .w) 0) 0 (classOf base (a .count)) (ne-eqb (a .w) 0 (λ e. omega arith))
 
 pub class-for-spec : {M : Type 1} → statement M
-class-for-spec = tie.close (tie.spec returns class-of-requires enum-known-class enum-told returns-2 returns-3)
+class-for-spec = tie.close (tie.spec returns (λ c κs. search needs) (λ c. search needs) (λ c. search needs) returns-2 returns-3)

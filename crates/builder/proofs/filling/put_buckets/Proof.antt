@@ -33,9 +33,6 @@ bucket-from-requires c κs =
     let s = c .before .before .before .before in
     (record { sound = s .pre .0; inside = omega arith; before = c .before .loop .inv .1 .within }, omega arith)
 
-encode-requires : tie.Need-encode-requires Inv-loop μ-loop
-encode-requires c κs = search needs
-
 slice-aggregate-put-all : tie.Need-slice-aggregate-put-all Inv-loop μ-loop
 slice-aggregate-put-all c = search needs
 
@@ -117,7 +114,7 @@ put-buckets-spec =
     μ-loop
     loop-holds
     bucket-from-requires
-    encode-requires
+    (λ c κs. search needs)
     slice-aggregate-put-all
     mul-put-all
     add-put-all

@@ -15,15 +15,6 @@ use Rattle.builder.proofs.growth.class_value.Tie as tie
 cast-class-of : tie.Need-cast-class-of
 cast-class-of c = search needs
 
-class-of-requires : tie.Need-class-of-requires
-class-of-requires c κs = search needs
-
-enum-known-class : tie.Need-enum-known-class
-enum-known-class c = search needs
-
-enum-told : tie.Need-enum-told
-enum-told c = search needs
-
 returns : tie.Need-returns
 returns c =
     let v = c .before .before .before .args .count in
@@ -40,20 +31,8 @@ number-reply c =
     let r = class-read (told .0 .0) _ (ap usedClass d ∙ class-used v (omega arith) (omega arith)) (c .number-of-class .ensures .0) in
     (r .0, r .1 ∙ ap (classNumber base) d)
 
-number-of-class-requires : tie.Need-number-of-class-requires
-number-of-class-requires c κs = search needs
-
-enum-known-number : tie.Need-enum-known-number
-enum-known-number c = search needs
-
-enum-told-2 : tie.Need-enum-told-2
-enum-told-2 c = search needs
-
 returns-2 : tie.Need-returns-2
 returns-2 c = absurd (omega (arith, ap (λ (m : Meaning). meaningReply m .refusal) (sym (c .enum-told2 .given .1)) ∙ number-reply (c .before .before) .0))
-
-wide-requires : tie.Need-wide-requires
-wide-requires c κs = search needs
 
 returns-3 : tie.Need-returns-3
 returns-3 c =
@@ -66,13 +45,13 @@ class-value-spec =
     tie.close
     (tie.spec
     cast-class-of
-    class-of-requires
-    enum-known-class
-    enum-told
+    (λ c κs. search needs)
+    (λ c. search needs)
+    (λ c. search needs)
     returns
-    number-of-class-requires
-    enum-known-number
-    enum-told-2
+    (λ c κs. search needs)
+    (λ c. search needs)
+    (λ c. search needs)
     returns-2
-    wide-requires
+    (λ c κs. search needs)
     returns-3)

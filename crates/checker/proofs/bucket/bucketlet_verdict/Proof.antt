@@ -19,15 +19,6 @@ returns c =
     let a = c .before .before .args in
     sym (empty-verdict (a .q) (a .freqs .now) (a .a) (a .w) (classNumber base (a .class)) (omega arith))
 
-number-of-class-requires : tie.Need-number-of-class-requires
-number-of-class-requires c κs = search needs
-
-enum-known-number : tie.Need-enum-known-number
-enum-known-number c = search needs
-
-enum-told : tie.Need-enum-told
-enum-told c = search needs
-
 -- the reply of the call
 reply : (c : tie.After-number-of-class)
     → let r = meaningReply (c .number-of-class .result) in
@@ -64,9 +55,9 @@ bucketlet-verdict-spec =
     tie.close
     (tie.spec
     returns
-    number-of-class-requires
-    enum-known-number
-    enum-told
+    (λ c κs. search needs)
+    (λ c. search needs)
+    (λ c. search needs)
     returns-2
     cast-first-failing
     first-failing-requires

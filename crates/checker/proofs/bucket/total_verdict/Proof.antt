@@ -18,15 +18,6 @@ use Rattle.check_rules.proofs.RangeLaws.{good-accepted, bad-fails}
 use Rattle.checker.proofs.bucket.total_verdict.Statement.{statement}
 use Rattle.checker.proofs.bucket.total_verdict.Tie as tie
 
-number-of-total-requires : tie.Need-number-of-total-requires
-number-of-total-requires c κs = search needs
-
-enum-known-number : tie.Need-enum-known-number
-enum-known-number c = search needs
-
-enum-told : tie.Need-enum-told
-enum-told c = search needs
-
 -- the reply of the call
 reply : (c : tie.After-number-of-total)
     → let r = meaningReply (c .number-of-total .result) in
@@ -83,9 +74,9 @@ pub total-verdict-spec : {M : Type 1} → statement M
 total-verdict-spec =
     tie.close
     (tie.spec
-    number-of-total-requires
-    enum-known-number
-    enum-told
+    (λ c κs. search needs)
+    (λ c. search needs)
+    (λ c. search needs)
     returns
     cast-total
     sub-count-of

@@ -8,22 +8,10 @@ use Rattle.estimator.proofs.AskLaws.{class-value}
 use Rattle.estimator.proofs.pieces.class_number.Statement.{statement}
 use Rattle.estimator.proofs.pieces.class_number.Tie as tie
 
-number-of-class-requires : tie.Need-number-of-class-requires
-number-of-class-requires c κs = search needs
-
-enum-known-s : tie.Need-enum-known-s
-enum-known-s c = search needs
-
-enum-told : tie.Need-enum-told
-enum-told c = search needs
-
 returns : tie.Need-returns
 returns c =
     let n = c .before .before .number-of-class in
     ap (λ (m : Meaning). meaningReply m .value) (sym (c .enum-told .given .1)) ∙ class-value _ _ (c .before .before .before .pre) (n .ensures .0)
-
-wide-requires : tie.Need-wide-requires
-wide-requires c κs = search needs
 
 returns-2 : tie.Need-returns-2
 returns-2 c =
@@ -35,4 +23,4 @@ returns-2 c =
 pub class-number-spec : {M : Type 1} → statement M
 class-number-spec =
     tie.close
-    (tie.spec number-of-class-requires enum-known-s enum-told returns wide-requires returns-2)
+    (tie.spec (λ c κs. search needs) (λ c. search needs) (λ c. search needs) returns (λ c κs. search needs) returns-2)
