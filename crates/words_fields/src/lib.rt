@@ -5,7 +5,6 @@ use words_rules::Bucket;
 use words_rules::HEAD_WORDS;
 use words_rules::Head;
 ghost use mathlib.Core.Path.{_≡_};
-ghost use mathlib.Core.List.{[], _∷_};
 ghost use Prim.Native.Nat.{ℕ, _-_, _≤_, _<_};
 ghost use lib.ListN.{getD};
 ghost use Rattle.laws.specs.Field.{field};
@@ -29,31 +28,30 @@ pub fn start_of(first: u32) -> u32
     field_of(first, 29, 10)
 }
 
+struct Widths {
+    a: u32,
+    b: u32,
+    c: u32,
+}
+
 // The widths in a word that lists three.
-fn widths_of(word: u32) -> [u32; 3]
-    ensures { λ r. ⌜ r ≡ field word 26 18 ∷ field word 17 9 ∷ field word 8 0 ∷ [] ⌝ }
+fn widths_of(word: u32) -> Widths
+    ensures { λ r. ⌜ (r .a ≡ field word 26 18) × (r .b ≡ field word 17 9) × (r .c ≡ field word 8 0) ⌝ }
 {
-    [
-        field_of(word, 26, 18),
-        field_of(word, 17, 9),
-        field_of(word, 8, 0),
-    ]
+    Widths {
+        a: field_of(word, 26, 18),
+        b: field_of(word, 17, 9),
+        c: field_of(word, 8, 0),
+    }
 }
 
 fn listed_of(packed: [u32; BUCKET_WORDS]) -> [u32; 7]
     ensures { λ r. ⌜ r ≡ listedIn packed ⌝ }
 {
-    let a = widths_of(packed[3]);
-    let b = widths_of(packed[4]);
-    [
-        field_of(packed[0], 8, 0),
-        a[0],
-        a[1],
-        a[2],
-        b[0],
-        b[1],
-        b[2],
-    ]
+    let first = field_of(packed[0], 8, 0);
+    let m = widths_of(packed[3]);
+    let n = widths_of(packed[4]);
+    [first, m.a, m.b, m.c, n.a, n.b, n.c]
 }
 
 fn classes_of(packed: [u32; BUCKET_WORDS]) -> [u32; 8]

@@ -9,6 +9,21 @@ use Rattle.words_packing.proofs.listed_at.Statement.{statement}
 use Rattle.words_packing.proofs.listed_at.Tie as tie
 use Rattle.words_rules.specs.Decoded.{widthAt}
 
+mul-result : tie.Need-mul-result
+mul-result c = search needs
+
+element-copy-out-result : tie.Need-element-copy-out-result
+element-copy-out-result c = search needs
+
+add-result : tie.Need-add-result
+add-result c = search needs
+
+mul-result-2 : tie.Need-mul-result-2
+mul-result-2 c = search needs
+
+element-copy-out-result-2 : tie.Need-element-copy-out-result-2
+element-copy-out-result-2 c = search needs
+
 returns : tie.Need-returns
 returns c =
     let a = c .before .before .args in
@@ -23,10 +38,10 @@ pub listed-at-spec : {M : Type 1} → statement M
 listed-at-spec =
     tie.close
     (tie.spec
-    (λ c. search needs)
-    (λ c. search needs)
-    (λ c. search needs)
-    (λ c. search needs)
-    (λ c. search needs)
+    mul-result
+    element-copy-out-result
+    add-result
+    mul-result-2
+    element-copy-out-result-2
     returns
     returns-2)

@@ -1,17 +1,34 @@
--- `words_packing::width_word` meets its contract: each field goes onto bits that are still 0, so that `|` is `+`.
+-- `words_packing::width_word` meets its contract: each listed width goes onto bits that are still 0.
 -- Assumes nothing.
+use mathlib.Core.Path.{_∙_}
 use borrow.Author.Needs.{needs}
 use lib.Dec.{lit≤}
 use Rattle.laws.proofs.FieldLaws.{of-kind, onto}
+use Rattle.words_rules.specs.Decoded.{widthWord}
 use Rattle.words_packing.proofs.width_word.Statement.{statement}
 use Rattle.words_packing.proofs.width_word.Tie as tie
 
 returns : tie.Need-returns
 returns c =
-    let a = c .before .before .before .args in
-    let w = onto (a .a) 26 18 (lit≤ tt) (of-kind 3 27 (lit≤ tt)) (c .before .before .put-at .ensures) in
-    let x = onto (a .b) 17 9 (lit≤ tt) w (c .before .put-at2 .ensures) in
-    (onto (a .c) 8 0 (lit≤ tt) x (c .put-at3 .ensures)) .is
+    let l = c .before .before .before in
+    let w = onto _ 26 18 (lit≤ tt) (of-kind 3 27 (lit≤ tt)) (c .before .before .put-at .ensures) in
+    let x = onto _ 17 9 (lit≤ tt) w (c .before .put-at2 .ensures) in
+    let y = onto _ 8 0 (lit≤ tt) x (c .put-at3 .ensures) in
+    let e₀ = l .before .before .listed-at .ensures in
+    let e₁ = l .before .listed-at2 .ensures in
+    let e₂ = l .listed-at3 .ensures in
+    y .is ∙ (λ i. widthWord (e₀ i) (e₁ i) (e₂ i))
 
 pub width-word-spec : {M : Type 1} → statement M
-width-word-spec = tie.close (tie.spec (λ c κs. search needs) (λ c κs. search needs) (λ c κs. search needs) returns)
+width-word-spec =
+    tie.close
+    (tie.spec
+    (λ c κs. search needs)
+    (λ c. search needs)
+    (λ c κs. search needs)
+    (λ c. search needs)
+    (λ c κs. search needs)
+    (λ c κs. search needs)
+    (λ c κs. search needs)
+    (λ c κs. search needs)
+    returns)
