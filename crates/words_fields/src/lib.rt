@@ -10,7 +10,7 @@ ghost use lib.ListN.{getD};
 ghost use Rattle.laws.specs.Field.{field};
 ghost use Rattle.laws.specs.Sums.{sum};
 ghost use Rattle.words_rules.specs.Limits.{maxListed};
-ghost use Rattle.words_rules.specs.Words.{listedIn, classesIn, headOf};
+ghost use Rattle.words_rules.specs.Words.{bucketWords, word, listedIn, classesIn, headOf};
 ghost use Rattle.words_rules.specs.Decoded.{withFree, decode};
 
 // What stands in bits hi to lo of a word.
@@ -34,10 +34,12 @@ struct Widths {
     c: u32,
 }
 
-// The widths in a word that lists three.
-fn widths_of(word: u32) -> Widths
-    ensures { λ r. ⌜ (r .a ≡ field word 26 18) × (r .b ≡ field word 17 9) × (r .c ≡ field word 8 0) ⌝ }
+// The widths that word j lists, three as each of the last two does.
+fn widths_of(packed: [u32; BUCKET_WORDS], j: usize) -> Widths
+    requires { ⌜ j < bucketWords ⌝ }
+    ensures { λ r. ⌜ (r .a ≡ field (word packed j) 26 18) × (r .b ≡ field (word packed j) 17 9) × (r .c ≡ field (word packed j) 8 0) ⌝ }
 {
+    let word = packed[j];
     Widths {
         a: field_of(word, 26, 18),
         b: field_of(word, 17, 9),
@@ -49,8 +51,8 @@ fn listed_of(packed: [u32; BUCKET_WORDS]) -> [u32; 7]
     ensures { λ r. ⌜ r ≡ listedIn packed ⌝ }
 {
     let first = field_of(packed[0], 8, 0);
-    let m = widths_of(packed[3]);
-    let n = widths_of(packed[4]);
+    let m = widths_of(packed, 3);
+    let n = widths_of(packed, 4);
     [first, m.a, m.b, m.c, n.a, n.b, n.c]
 }
 

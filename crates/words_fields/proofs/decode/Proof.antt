@@ -10,8 +10,23 @@ use Rattle.words_rules.proofs.DecodedLaws.{listed-bits}
 use Rattle.words_fields.proofs.decode.Statement.{statement}
 use Rattle.words_fields.proofs.decode.Tie as tie
 
+array-read-start-of : tie.Need-array-read-start-of
+array-read-start-of c = search needs
+
+array-read-field-of : tie.Need-array-read-field-of
+array-read-field-of c = search needs
+
+field-of-requires : tie.Need-field-of-requires
+field-of-requires c κs = search needs
+
 sum-of-requires : tie.Need-sum-of-requires
 sum-of-requires c κs = listed-bits (c .before .before .before .before .args .t1) (c .before .before .before .listed-of .result) (c .before .before .before .listed-of .ensures)
+
+array-read-field-of-2 : tie.Need-array-read-field-of-2
+array-read-field-of-2 c = search needs
+
+field-of-requires-2 : tie.Need-field-of-requires-2
+field-of-requires-2 c κs = search needs
 
 returns : tie.Need-returns
 unfolding decode
@@ -33,15 +48,15 @@ decode-spec =
     tie.close
     (tie.spec
     (λ c κs. search needs)
-    (λ c. search needs)
+    array-read-start-of
     (λ c κs. search needs)
-    (λ c. search needs)
-    (λ c κs. search needs)
+    array-read-field-of
+    field-of-requires
     (λ c κs. search needs)
     sum-of-requires
     (λ c κs. search needs)
     (λ c κs. search needs)
     (λ c κs. search needs)
-    (λ c. search needs)
-    (λ c κs. search needs)
+    array-read-field-of-2
+    field-of-requires-2
     returns)

@@ -7,6 +7,30 @@ use Rattle.words_rules.specs.Decoded.{startWord, encode}
 use Rattle.words_packing.proofs.encode.Statement.{statement}
 use Rattle.words_packing.proofs.encode.Tie as tie
 
+array-read-class-word : tie.Need-array-read-class-word
+array-read-class-word c = search needs
+
+array-read-class-word-2 : tie.Need-array-read-class-word-2
+array-read-class-word-2 c = search needs
+
+array-read-class-word-3 : tie.Need-array-read-class-word-3
+array-read-class-word-3 c = search needs
+
+array-read-class-word-4 : tie.Need-array-read-class-word-4
+array-read-class-word-4 c = search needs
+
+array-read-class-word-5 : tie.Need-array-read-class-word-5
+array-read-class-word-5 c = search needs
+
+array-read-total-word : tie.Need-array-read-total-word
+array-read-total-word c = search needs
+
+array-read-total-word-2 : tie.Need-array-read-total-word-2
+array-read-total-word-2 c = search needs
+
+array-read-total-word-3 : tie.Need-array-read-total-word-3
+array-read-total-word-3 c = search needs
+
 returns : tie.Need-returns
 unfolding encode
 returns c =
@@ -25,15 +49,15 @@ encode-spec =
     (tie.spec
     (λ c κs. search needs)
     (λ c κs. search needs)
-    (λ c. search needs)
-    (λ c. search needs)
-    (λ c. search needs)
-    (λ c. search needs)
-    (λ c. search needs)
+    array-read-class-word
+    array-read-class-word-2
+    array-read-class-word-3
+    array-read-class-word-4
+    array-read-class-word-5
     (λ c κs. search needs)
-    (λ c. search needs)
-    (λ c. search needs)
-    (λ c. search needs)
+    array-read-total-word
+    array-read-total-word-2
+    array-read-total-word-3
     (λ c κs. search needs)
     (λ c κs. search needs)
     (λ c κs. search needs)

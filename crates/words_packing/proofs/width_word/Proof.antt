@@ -8,6 +8,21 @@ use Rattle.words_rules.specs.Decoded.{widthWord}
 use Rattle.words_packing.proofs.width_word.Statement.{statement}
 use Rattle.words_packing.proofs.width_word.Tie as tie
 
+listed-at-requires : tie.Need-listed-at-requires
+listed-at-requires c κs = search needs
+
+add-listed-at : tie.Need-add-listed-at
+add-listed-at c = search needs
+
+listed-at-requires-2 : tie.Need-listed-at-requires-2
+listed-at-requires-2 c κs = search needs
+
+add-listed-at-2 : tie.Need-add-listed-at-2
+add-listed-at-2 c = search needs
+
+listed-at-requires-3 : tie.Need-listed-at-requires-3
+listed-at-requires-3 c κs = search needs
+
 returns : tie.Need-returns
 returns c =
     let l = c .before .before .before in
@@ -23,11 +38,11 @@ pub width-word-spec : {M : Type 1} → statement M
 width-word-spec =
     tie.close
     (tie.spec
-    (λ c κs. search needs)
-    (λ c. search needs)
-    (λ c κs. search needs)
-    (λ c. search needs)
-    (λ c κs. search needs)
+    listed-at-requires
+    add-listed-at
+    listed-at-requires-2
+    add-listed-at-2
+    listed-at-requires-3
     (λ c κs. search needs)
     (λ c κs. search needs)
     (λ c κs. search needs)
