@@ -1,14 +1,19 @@
 -- What a caller learns of a reply where its argument is one that is answered.
 -- Assumes nothing.
-use mathlib.Core.Path.{_≡_, ap, _∙_}
+use mathlib.Core.Path.{_≡_, refl, sym, ap, _∙_}
 use mathlib.Core.Bool.{Bool, true, cond}
 use Prim.Native.Nat.{ℕ, _≤_}
+use native.Mathlib.Omega.{arith}
 use Rattle.counts_rules.specs.Limit.{limit, countable}
 use Rattle.counts_rules.specs.Form.{base, usedClass}
 use Rattle.counts_rules.specs.Class.{classOf, classNumber}
 use Rattle.counts_rules.specs.Total.{totalCode, totalNumber, validCode}
 use Rattle.laws.specs.Reply.{Reply, answered, refused}
-use Rattle.counts.specs.Reply.{classReply, totalReply, classMeaning, totalMeaning}
+use Rattle.counts.specs.declared.Coded.{Coded}
+use Rattle.counts.specs.declared.Coded.the-variants.{Code, Refused as NotCoded}
+use Rattle.counts.specs.declared.Meaning.{Meaning}
+use Rattle.counts.specs.declared.Meaning.the-variants.{Number, Refused as NotRead}
+use Rattle.counts.specs.Reply.{codedReply, meaningReply, classReply, totalReply, classMeaning, totalMeaning}
 use Rattle.counts.proofs.CountLaws.{in-range}
 
 -- a reply that is answered has no refusal, and its value
@@ -37,3 +42,36 @@ class-read c r h e = (no-refusal (usedClass c) (classNumber base c) 17 h r e, va
 pub total-read : (c : ℕ) (r : Reply) → validCode c ≡ true → r ≡ totalMeaning c → (r .refusal ≡ 0) × (r .value ≡ totalNumber c)
 unfolding totalMeaning
 total-read c r h e = (no-refusal (validCode c) (totalNumber c) 17 h r e, value-is (validCode c) (totalNumber c) 17 h r e)
+
+-- ---- the same of an answer that is taken apart
+
+-- it is not the refusal, and the number that it holds is v
+pub record Holding {A : Type 0} (value : ℕ → A) (refusal a : A) (v : ℕ) : Type 0 where
+  pub not-refused : a ≡ refusal → ⊥
+  pub held : (n : ℕ) → a ≡ value n → n ≡ v
+
+abbrev pub Holds-code : Coded → ℕ → Type 0
+Holds-code = Holding Code NotCoded
+
+abbrev pub Holds-number : Meaning → ℕ → Type 0
+Holds-number = Holding Number NotRead
+
+holding : {A : Type 0} (reply : A → Reply) (value : ℕ → A) (refusal : A) → (reply refusal .refusal ≡ 0 → ⊥) → ((n : ℕ) → reply (value n) .value ≡ n)
+    → (a : A) (v : ℕ) → (reply a .refusal ≡ 0) × (reply a .value ≡ v) → Holding value refusal a v
+holding {A} reply value refusal z same a v r =
+    record {
+      not-refused = λ e. z (ap (λ (b : A). reply b .refusal) (sym e) ∙ r .0);
+      held = λ n e. sym (same n) ∙ ap (λ (b : A). reply b .value) (sym e) ∙ r .1;
+    }
+
+pub class-code : (v : ℕ) (a : Coded) → 1 ≤ v → v ≤ limit → codedReply a ≡ classReply v → Holds-code a (classOf base v)
+class-code v a h l e = holding codedReply Code NotCoded (λ z. omega arith) (λ n. refl) a _ (class-coded v (codedReply a) h l e)
+
+pub total-code : (t : ℕ) (a : Coded) → 1 ≤ t → t ≤ limit → codedReply a ≡ totalReply t → Holds-code a (totalCode t)
+total-code t a h l e = holding codedReply Code NotCoded (λ z. omega arith) (λ n. refl) a _ (total-coded t (codedReply a) h l e)
+
+pub class-number : (c : ℕ) (a : Meaning) → usedClass c ≡ true → meaningReply a ≡ classMeaning c → Holds-number a (classNumber base c)
+class-number c a h e = holding meaningReply Number NotRead (λ z. omega arith) (λ n. refl) a _ (class-read c (meaningReply a) h e)
+
+pub total-number : (c : ℕ) (a : Meaning) → validCode c ≡ true → meaningReply a ≡ totalMeaning c → Holds-number a (totalNumber c)
+total-number c a h e = holding meaningReply Number NotRead (λ z. omega arith) (λ n. refl) a _ (total-read c (meaningReply a) h e)
