@@ -13,16 +13,17 @@ use Rattle.laws.proofs.Tests.{is-false, not-holds}
 use Rattle.laws.proofs.RefusalLaws.{refused, passed, none-left}
 use Rattle.list_rules.specs.Frequencies.{entriesFault, sumFault}
 use Rattle.laws.proofs.BetweenLaws.{within, is-within}
+use Rattle.list_rules.specs.Limits.{maxEntries}
 use Rattle.list_faults.proofs.list_fault.Statement.{statement}
 use Rattle.list_faults.proofs.list_fault.Tie as tie
 
-wrong-length : (fs : List ℕ) → (1 ≤ length fs → length fs ≤ 65536 → ⊥) → entriesFault fs ≡ true
+wrong-length : (fs : List ℕ) → (1 ≤ length fs → length fs ≤ maxEntries → ⊥) → entriesFault fs ≡ true
 unfolding entriesFault
-wrong-length fs h = not-holds _ (is-false _ (λ t. let b = within 1 65536 (length fs) t in h (b .least) (b .most)))
+wrong-length fs h = not-holds _ (is-false _ (λ t. let b = within 1 maxEntries (length fs) t in h (b .least) (b .most)))
 
-right-length : (fs : List ℕ) → 1 ≤ length fs → length fs ≤ 65536 → entriesFault fs ≡ false
+right-length : (fs : List ℕ) → 1 ≤ length fs → length fs ≤ maxEntries → entriesFault fs ≡ false
 unfolding entriesFault
-right-length fs h l = ap not (is-within 1 65536 (length fs) (record { least = h; most = l }))
+right-length fs h l = ap not (is-within 1 maxEntries (length fs) (record { least = h; most = l }))
 
 large-sum : (fs : List ℕ) (s : ℕ) → s ≡ sum fs → 1073741823 < s → sumFault fs ≡ true
 unfolding sumFault

@@ -18,6 +18,7 @@ use Rattle.counts_rules.specs.Limit.{limit}
 use Rattle.list_rules.specs.Limits.{maxQ}
 use Rattle.list_rules.specs.declared.Quality.{Quality}
 use Rattle.build_rules.proofs.WidthLaws.{count-small}
+use Rattle.words_rules.specs.Limits.{maxWidth}
 use Rattle.builder.specs.declared.growth.Ratio.{Ratio}
 use Rattle.builder.specs.Private.Growing.{rangeCount, Bounding}
 use Rattle.builder.proofs.BoundLaws.{HeavyFrom, bounds, heavy-none, heavy-step, heavy-le, bounding-row, bounding-step, bounding-split}
@@ -117,7 +118,7 @@ counted-of-requires : tie.Need-counted-of-requires Inv-loop μ-loop
 counted-of-requires c κs =
     let l = c .before .before .before .before .before .before .loop in
     let p = c .before .before .before .before .before .before .before .before .before .before .before .pre .growable in
-    let n : c .before .before .before .before .before .before .before .before .before .before .before .args .w + 1 - (l .i - 1) ≤ 4095 = omega (arith, p .narrow) in
+    let n : c .before .before .before .before .before .before .before .before .before .before .before .args .w + 1 - (l .i - 1) ≤ maxWidth = omega (arith, p .narrow) in
     (omega (arith, mul-le-mul (l .inv .bounding .low-top) n), omega (arith, mul-le-mul (small (c .before .before .before)) (l .inv .bounding .low-bottom)))
 
 mul-larger-of-wide : tie.Need-mul-larger-of-wide Inv-loop μ-loop
@@ -128,7 +129,7 @@ greater-of-requires c κs =
     let l = c .before .before .before .before .before .before .before .before .before .loop in
     let p = c .before .before .before .before .before .before .before .before .before .before .before .before .before .before .pre .growable in
     let s = p .sound in
-    let n : c .before .before .before .before .before .before .before .before .before .before .before .before .before .before .args .w + 1 - (l .i - 1) ≤ 4095 = omega (arith, p .narrow) in
+    let n : c .before .before .before .before .before .before .before .before .before .before .before .before .before .before .args .w + 1 - (l .i - 1) ≤ maxWidth = omega (arith, p .narrow) in
     let cap : c .larger-of-wide .result ≤ maxQ * limit =
     omega (arith, c .larger-of-wide .ensures, mul-le-mul (s .qn-small) (small (c .before .before .before .before .before .before)), mul-le-mul (s .qd-small) (s .theta-small)) in
     (omega (arith, mul-le-mul (l .inv .bounding .up-top) cap), omega (arith, mul-le-mul n (l .inv .bounding .up-bottom)))
