@@ -28,6 +28,7 @@ pub fn start_of(first: u32) -> u32
     field_of(first, 29, 10)
 }
 
+// Three widths, from the highest bits down.
 struct Widths {
     a: u32,
     b: u32,

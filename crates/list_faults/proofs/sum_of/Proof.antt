@@ -1,7 +1,7 @@
 -- `list_faults::sum_of` meets its contract. At the loop the sum is that of the entries before i, each of which fits its 32 bits.
 -- Assumes nothing.
 use mathlib.Core.Path.{_∙_}
-use Prim.Native.Nat.{_+_, _-_, _^_}
+use Prim.Native.Nat.{_-_, _^_}
 use native.Mathlib.Omega.{arith}
 use borrow.Author.Needs.{needs}
 use lib.ListN.{length}

@@ -1,7 +1,7 @@
 -- `builder::bucket::count_of` meets its contract. At the loop the count is that of the first i entries.
 -- Assumes nothing.
 use mathlib.Core.Path.{refl}
-use Prim.Native.Nat.{_+_, _-_}
+use Prim.Native.Nat.{_-_}
 use native.Mathlib.Omega.{arith}
 use borrow.Author.Needs.{needs}
 use Rattle.laws.proofs.SumsLaws.{Added, none-added, one-added, all-added, added-le}
