@@ -16,7 +16,7 @@ use Rattle.laws.proofs.Tests.{both, both-right}
 use Rattle.laws.proofs.EachLaws.{each-at, each-all}
 use Rattle.laws.proofs.SumsLaws.{part-add, part-within}
 use Rattle.laws.specs.Private.Greatest.{Greatest}
-use Rattle.laws.proofs.GreatestLaws.{Plus, of-none, of-greater, of-smaller, of-spread}
+use Rattle.laws.proofs.GreatestLaws.{Plus, Split, of-none, of-greater, of-smaller, of-spread}
 use Rattle.list_rules.specs.declared.Quality.{Quality}
 use Rattle.build_bounds.specs.Private.Growing.{Seen, rangeCount, rangeLength, rangeCap, HeavySeen, KeptBy}
 use Rattle.fit.specs.Fit.{near, fits, rangesFit, bucketletFits}
@@ -165,6 +165,10 @@ module _ (q : Quality) (fs : List ℕ) (a : ℕ) where
     heavy-first : (x : ℕ) → x ≤ i → q .theta < countAt x (m - x)
     heavy-first x l = let p = part-within (a + x) (m - x) (a + i) (m - i) fs (omega arith) (omega arith) in omega arith
 
+    split-at : (top bottom : ℕ → ℕ → ℕ) (S : ℕ → ℕ → Type 0) (x n : ℕ) → S x (m - x) → S m (w - m)
+        → top x n ≤ top x (m - x) + top m (w - m) → bottom x (m - x) + bottom m (w - m) ≤ bottom x n → Split top bottom S x n
+    split-at top bottom S x n f s t b = record { i₁ = x; n₁ = m - x; i₂ = m; n₂ = w - m; first = f; second = s; tops = t; bottoms = b }
+
     pub kept-split : (lt lb ut ub : ℕ) → Kept w (suc i) lt lb ut ub → Kept w 0 lt lb ut ub
     kept-split lt lb ut ub k =
         record {
@@ -173,16 +177,11 @@ module _ (q : Quality) (fs : List ℕ) (a : ℕ) where
               (λ x n t. ⊎-elim
               (λ (s : Seen w (suc i) x n). inl (record { seen = s; heavy = t .heavy }))
               (λ (e : (x + n ≡ w) × (x ≤ i)).
-              inr (record {
-                i₁ = x;
-                n₁ = m - x;
-                i₂ = m;
-                n₂ = w - m;
-                first = record { seen = first-seen x (e .1); heavy = heavy-first x (e .1) };
-                second = record { seen = second-seen; heavy = late };
-                tops = omega (arith, sum-of x n (e .0) (e .1));
-                bottoms = lengths x n e;
-              }))
+              inr (split-at countAt rangeLength (Heavy w (suc i)) x n
+              (record { seen = first-seen x (e .1); heavy = heavy-first x (e .1) })
+              (record { seen = second-seen; heavy = late })
+              (omega (arith, sum-of x n (e .0) (e .1)))
+              (lengths x n e)))
               (divide x n (t .seen)))
               (λ x n t. record { seen = earlier x n (t .seen); heavy = t .heavy })
               lt lb (k .lower);
@@ -191,16 +190,7 @@ module _ (q : Quality) (fs : List ℕ) (a : ℕ) where
               (λ x n t. ⊎-elim
               (λ (s : Seen w (suc i) x n). inl s)
               (λ (e : (x + n ≡ w) × (x ≤ i)).
-              inr (record {
-                i₁ = x;
-                n₁ = m - x;
-                i₂ = m;
-                n₂ = w - m;
-                first = first-seen x (e .1);
-                second = second-seen;
-                tops = omega (arith, e .0, e .1);
-                bottoms = caps x n e;
-              }))
+              inr (split-at rangeLength capAt (Seen w (suc i)) x n (first-seen x (e .1)) second-seen (omega (arith, e .0, e .1)) (caps x n e)))
               (divide x n t))
               earlier ut ub (k .upper);
         }

@@ -65,10 +65,8 @@ fn count_of(freqs: &[u32], a: usize, w: usize) -> u32
     ensures { λ r. ⌜ r ≡ partSum a w (now (freqs .entry)) ⌝ }
 {
     let mut count: u32 = 0;
-    let mut i: usize = 0;
-    while i < w {
+    for i in 0..w {
         count += freqs[a + i];
-        i += 1;
     }
     count
 }

@@ -1,6 +1,6 @@
 -- What a caller learns of a reply where its argument is one that is answered.
 -- Assumes nothing.
-use mathlib.Core.Path.{_≡_, ap, _∙_}
+use mathlib.Core.Path.{_≡_, refl, sym, ap, _∙_}
 use mathlib.Core.Bool.{Bool, true, cond}
 use Prim.Native.Nat.{ℕ, _≤_}
 use native.Mathlib.Omega.{arith}
@@ -9,9 +9,11 @@ use Rattle.counts_rules.specs.Form.{base, usedClass}
 use Rattle.counts_rules.specs.Class.{classOf, classNumber}
 use Rattle.counts_rules.specs.Total.{totalCode, totalNumber, validCode}
 use Rattle.laws.specs.Reply.{Reply, answered, refused}
+use Rattle.counts.specs.declared.Coded.{Coded}
+use Rattle.counts.specs.declared.Coded.the-variants.{Code, Refused as NotCoded}
 use Rattle.counts.specs.declared.Meaning.{Meaning}
 use Rattle.counts.specs.declared.Meaning.the-variants.{Number, Refused as NotRead}
-use Rattle.counts.specs.Reply.{meaningOf, classReply, totalReply, classMeaning, totalMeaning}
+use Rattle.counts.specs.Reply.{codedReply, meaningReply, classReply, totalReply, classMeaning, totalMeaning}
 use Rattle.counts.proofs.CountLaws.{in-range}
 
 -- a reply that is answered has no refusal, and its value
@@ -41,23 +43,35 @@ pub total-read : (c : ℕ) (r : Reply) → validCode c ≡ true → r ≡ totalM
 unfolding totalMeaning
 total-read c r h e = (no-refusal (validCode c) (totalNumber c) 17 h r e, value-is (validCode c) (totalNumber c) 17 h r e)
 
--- ---- the answer as a caller takes it apart
+-- ---- the same of an answer that is taken apart
 
--- a number that is read is that of the definition
-known : (t : Bool) (v : ℕ) (m : Meaning) → t ≡ true → m ≡ meaningOf (cond t (answered v) (refused 17)) → m ≡ Number v
-known t v m h e = e ∙ ap meaningOf (reply-is t v 17 h)
+-- it is not the refusal, and the number that it holds is v
+pub record Holding {A : Type 0} (value : ℕ → A) (refusal a : A) (v : ℕ) : Type 0 where
+  pub not-refused : a ≡ refusal → ⊥
+  pub held : (n : ℕ) → a ≡ value n → n ≡ v
 
-pub class-known : (c : ℕ) (m : Meaning) → usedClass c ≡ true → m ≡ meaningOf (classMeaning c) → m ≡ Number (classNumber base c)
-unfolding classMeaning
-class-known c = known (usedClass c) (classNumber base c)
+abbrev pub Holds-code : Coded → ℕ → Type 0
+Holds-code = Holding Code NotCoded
 
-pub total-known : (c : ℕ) (m : Meaning) → validCode c ≡ true → m ≡ meaningOf (totalMeaning c) → m ≡ Number (totalNumber c)
-unfolding totalMeaning
-total-known c = known (validCode c) (totalNumber c)
+abbrev pub Holds-number : Meaning → ℕ → Type 0
+Holds-number = Holding Number NotRead
 
--- so it is not refused, and the number in hand is the one that is known
-pub not-refused : {m : Meaning} {v : ℕ} → m ≡ Number v → m ≡ NotRead → ⊥
-not-refused k e = let z : _≡_ {A = ℕ} 0 1 = cc in omega arith
+holding : {A : Type 0} (reply : A → Reply) (value : ℕ → A) (refusal : A) → (reply refusal .refusal ≡ 0 → ⊥) → ((n : ℕ) → reply (value n) .value ≡ n)
+    → (a : A) (v : ℕ) → (reply a .refusal ≡ 0) × (reply a .value ≡ v) → Holding value refusal a v
+holding {A} reply value refusal z same a v r =
+    record {
+      not-refused = λ e. z (ap (λ (b : A). reply b .refusal) (sym e) ∙ r .0);
+      held = λ n e. sym (same n) ∙ ap (λ (b : A). reply b .value) (sym e) ∙ r .1;
+    }
 
-pub number-is : {m : Meaning} {v n : ℕ} → m ≡ Number v → m ≡ Number n → n ≡ v
-number-is k e = cc
+pub class-code : (v : ℕ) (a : Coded) → 1 ≤ v → v ≤ limit → codedReply a ≡ classReply v → Holds-code a (classOf base v)
+class-code v a h l e = holding codedReply Code NotCoded (λ z. omega arith) (λ n. refl) a _ (class-coded v (codedReply a) h l e)
+
+pub total-code : (t : ℕ) (a : Coded) → 1 ≤ t → t ≤ limit → codedReply a ≡ totalReply t → Holds-code a (totalCode t)
+total-code t a h l e = holding codedReply Code NotCoded (λ z. omega arith) (λ n. refl) a _ (total-coded t (codedReply a) h l e)
+
+pub class-number : (c : ℕ) (a : Meaning) → usedClass c ≡ true → meaningReply a ≡ classMeaning c → Holds-number a (classNumber base c)
+class-number c a h e = holding meaningReply Number NotRead (λ z. omega arith) (λ n. refl) a _ (class-read c (meaningReply a) h e)
+
+pub total-number : (c : ℕ) (a : Meaning) → validCode c ≡ true → meaningReply a ≡ totalMeaning c → Holds-number a (totalNumber c)
+total-number c a h e = holding meaningReply Number NotRead (λ z. omega arith) (λ n. refl) a _ (total-read c (meaningReply a) h e)

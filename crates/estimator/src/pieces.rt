@@ -8,31 +8,36 @@ ghost use Prim.Native.Nat.{_+_, _^_, _≤_, _<_};
 ghost use Rattle.counts_rules.specs.Form.{base};
 ghost use Rattle.counts_rules.specs.Class.{classNumber};
 ghost use Rattle.counts_rules.specs.Total.{totalNumber, validCode};
+ghost use Rattle.counts.specs.Reply.{meaningReply};
 ghost use Rattle.words_rules.specs.Words.{buckets};
 ghost use Rattle.words_rules.specs.Reading.{Readable};
 ghost use Rattle.estimate_rules.specs.Fraction.{plus};
 ghost use Rattle.estimate_rules.specs.Exact.{inside, overlap, piece, bucketPiece, exact};
 ghost use Rattle.estimator.specs.Private.Adding.{Small, ClassIn, Addable};
 
+// The number that an answer of the coding holds, 0 if it is refused.
+fn number_in(answer: Meaning) -> u64
+    ensures { λ r. ⌜ r ≡ meaningReply answer .value ⌝ }
+{
+    let Meaning::Number(s) = answer else {
+        return 0;
+    };
+    arithmetic::wide(s)
+}
+
 // The number of a bucketlet's class, 0 of class 0.
 fn class_number(class: u32) -> u64
     requires { ⌜ ClassIn class ⌝ }
     ensures { λ r. ⌜ r ≡ classNumber base class ⌝ }
 {
-    let Meaning::Number(s) = counts::number_of_class(class) else {
-        return 0;
-    };
-    arithmetic::wide(s)
+    number_in(counts::number_of_class(class))
 }
 
 fn total_number(code: u32) -> u64
     requires { ⌜ validCode code ≡ true ⌝ }
     ensures { λ r. ⌜ r ≡ totalNumber code ⌝ }
 {
-    let Meaning::Number(s) = counts::number_of_total(code) else {
-        return 0;
-    };
-    arithmetic::wide(s)
+    number_in(counts::number_of_total(code))
 }
 
 // Whether the range from x to y holds the span from a to e.

@@ -3,9 +3,10 @@
 use mathlib.Core.Path.{_≡_, refl, sym, ap, _∙_}
 use mathlib.Core.Bool.{Bool, true, false, not}
 use mathlib.Core.Logic.{⊎-elim}
-use Prim.Native.Nat.{ℕ, zero, suc, _<_}
+use Prim.Native.Nat.{ℕ, zero, suc, _+_, _≤_, _<_}
 use native.Mathlib.Nat.{eq-or-lt-of-le, le-of-suc-le-suc}
 use native.Mathlib.Omega.{arith}
+use borrow.Author.Count.{below-more}
 use borrow.Author.Tests.{not-true, not-false}
 use Rattle.laws.specs.Each.{each, some}
 use Rattle.laws.proofs.Tests.{both, both-left, both-right, fails-left, fails-right, not-holds}
@@ -44,3 +45,23 @@ some-none n p f = ap not (each-all n (λ j. not (p j)) (λ i h. not-holds _ (f i
 pub none-at : (n : ℕ) (p : ℕ → Bool) → some n p ≡ false → (i : ℕ) → i < n → p i ≡ false
 unfolding some
 none-at n p f i h = not-true _ (each-at n (λ j. not (p j)) (not-false _ f) i h)
+
+-- ---- a loop that looks for the first of n numbers that passes
+
+-- the loop is at b, and has passed over each number before it
+pub record NoneBefore (n : ℕ) (p : ℕ → Bool) (b : ℕ) : Type 0 where
+  pub within : b ≤ n
+  pub fails : (i : ℕ) → i < b → p i ≡ false
+
+module _ (n : ℕ) (p : ℕ → Bool) where
+  pub none-yet : NoneBefore n p 0
+  none-yet = record { within = omega arith; fails = λ i h. absurd (omega arith) }
+
+  pub none-more : (b : ℕ) → b < n → NoneBefore n p b → p b ≡ false → NoneBefore n p (b + 1)
+  none-more b h s f = record { within = omega arith; fails = below-more _ _ (s .fails) f }
+
+  pub some-found : (b : ℕ) → b < n → p b ≡ true → true ≡ some n p
+  some-found b h t = sym (some-at n p b h t)
+
+  pub none-found : (b : ℕ) → n ≤ b → NoneBefore n p b → false ≡ some n p
+  none-found b h s = sym (some-none n p (λ i l. s .fails i (omega arith)))

@@ -3,8 +3,9 @@
 use mathlib.Core.Path.{_≡_, refl, ap, _∙_}
 use mathlib.Core.Logic.{⊎-elim}
 use mathlib.Core.List.{List, [], _∷_, _++_}
-use Prim.Native.Nat.{ℕ, zero, suc, _+_, _≤_, _<_, zero-le}
+use Prim.Native.Nat.{ℕ, zero, suc, _+_, _*_, _≤_, _<_, zero-le}
 use native.Mathlib.Nat.{le-of-eq, le-of-suc-le-suc, eq-or-lt-of-le}
+use native.Mathlib.Numerals.{add-one}
 use native.Mathlib.Omega.{arith}
 use lib.ListN.{length, getD, take, drop}
 use lib.Seq.{take-all, take-nil, take-add, drop-drop, getD-drop}
@@ -70,3 +71,28 @@ part-within i n j m xs h k =
 pub part-le : (i n : ℕ) (xs : List ℕ) → partSum i n xs ≤ sum xs
 part-le i n xs =
     omega (arith, part-prefix i n xs, prefix-mono (i + n) (i + n + length xs) xs (omega arith), prefix-all (i + n + length xs) xs (omega arith))
+
+-- the sum of n numbers that are each below m
+pub part-below : (i n m : ℕ) (xs : List ℕ) → ((k : ℕ) → getD xs k 0 < m) → partSum i n xs ≤ m * n
+part-below i zero m xs b = omega arith
+part-below i (suc n) m xs b = omega (arith, part-suc i n xs, part-below i n m xs b, b (i + n))
+
+-- ---- a loop that adds up the n numbers from place i on
+
+-- s is the sum of the first k of them
+pub record Added (i n : ℕ) (xs : List ℕ) (k s : ℕ) : Type 0 where
+  pub within : k ≤ n
+  pub so-far : s ≡ partSum i k xs
+
+module _ (i n : ℕ) (xs : List ℕ) where
+  pub none-added : Added i n xs 0 0
+  none-added = record { within = omega arith; so-far = refl }
+
+  pub one-added : (k j s v : ℕ) → k < n → j ≡ i + k → v ≡ getD xs j 0 → Added i n xs k s → Added i n xs (k + 1) (s + v)
+  one-added k j s v h e f a = record { within = omega arith; so-far = rw (add-one k) (part-next i k j v s xs e f (a .so-far)) }
+
+  pub all-added : (k s : ℕ) → n ≤ k → Added i n xs k s → s ≡ partSum i n xs
+  all-added k s h a = a .so-far ∙ ap (λ (m : ℕ). partSum i m xs) {x = k} {y = n} (let w = a .within in omega arith)
+
+  pub added-le : (k s : ℕ) → Added i n xs k s → s ≤ sum xs
+  added-le k s a = omega (arith, a .so-far, part-le i k xs)

@@ -10,7 +10,7 @@ ghost use lib.ListN.{getD};
 ghost use Rattle.laws.specs.Field.{field};
 ghost use Rattle.laws.specs.Sums.{sum};
 ghost use Rattle.words_rules.specs.Limits.{maxListed};
-ghost use Rattle.words_rules.specs.Words.{listedIn, classesIn, headOf};
+ghost use Rattle.words_rules.specs.Words.{bucketWords, word, listedIn, classesIn, headOf};
 ghost use Rattle.words_rules.specs.Decoded.{withFree, decode};
 
 // What stands in bits hi to lo of a word.
@@ -28,18 +28,33 @@ pub fn start_of(first: u32) -> u32
     field_of(first, 29, 10)
 }
 
+// Three widths, from the highest bits down.
+struct Widths {
+    a: u32,
+    b: u32,
+    c: u32,
+}
+
+// The widths that word j lists, three as each of the last two does.
+fn widths_of(packed: [u32; BUCKET_WORDS], j: usize) -> Widths
+    requires { ⌜ j < bucketWords ⌝ }
+    ensures { λ r. ⌜ (r .a ≡ field (word packed j) 26 18) × (r .b ≡ field (word packed j) 17 9) × (r .c ≡ field (word packed j) 8 0) ⌝ }
+{
+    let word = packed[j];
+    Widths {
+        a: field_of(word, 26, 18),
+        b: field_of(word, 17, 9),
+        c: field_of(word, 8, 0),
+    }
+}
+
 fn listed_of(packed: [u32; BUCKET_WORDS]) -> [u32; 7]
     ensures { λ r. ⌜ r ≡ listedIn packed ⌝ }
 {
-    [
-        field_of(packed[0], 8, 0),
-        field_of(packed[3], 26, 18),
-        field_of(packed[3], 17, 9),
-        field_of(packed[3], 8, 0),
-        field_of(packed[4], 26, 18),
-        field_of(packed[4], 17, 9),
-        field_of(packed[4], 8, 0),
-    ]
+    let first = field_of(packed[0], 8, 0);
+    let m = widths_of(packed, 3);
+    let n = widths_of(packed, 4);
+    [first, m.a, m.b, m.c, n.a, n.b, n.c]
 }
 
 fn classes_of(packed: [u32; BUCKET_WORDS]) -> [u32; 8]

@@ -6,7 +6,7 @@ use words_rules::HEAD_WORDS;
 use words_rules::Head;
 ghost use mathlib.Core.Path.{_≡_};
 ghost use mathlib.Core.Bool.{cond};
-ghost use Prim.Native.Nat.{_≤_, _<_};
+ghost use Prim.Native.Nat.{_+_, _≤_, _<_};
 ghost use Rattle.laws.specs.Field.{put};
 ghost use Rattle.words_rules.specs.Words.{qWord, encodeHead};
 ghost use Rattle.words_rules.specs.Decoded.{listedAt, startWord, classWord, totalWord, widthWord, encode};
@@ -48,12 +48,6 @@ fn total_word(c5: u32, c6: u32, c7: u32, total: u32) -> u32
     (2 << 30) | put_at(c5, 29, 24) | put_at(c6, 23, 18) | put_at(c7, 17, 12) | put_at(total, 11, 0)
 }
 
-fn width_word(a: u32, b: u32, c: u32) -> u32
-    ensures { λ r. ⌜ r ≡ widthWord a b c ⌝ }
-{
-    (3 << 30) | put_at(a, 26, 18) | put_at(b, 17, 9) | put_at(c, 8, 0)
-}
-
 // The listed width k, 0 to 6: all bucketlets are listed but the free one.
 fn listed_at(bucket: Bucket, k: usize) -> u32
     requires { ⌜ k < 7 ⌝ }
@@ -66,6 +60,17 @@ fn listed_at(bucket: Bucket, k: usize) -> u32
     }
 }
 
+// The word of the three listed widths from k on.
+fn width_word(bucket: Bucket, k: usize) -> u32
+    requires { ⌜ k < 5 ⌝ }
+    ensures { λ r. ⌜ r ≡ widthWord (listedAt bucket k) (listedAt bucket (k + 1)) (listedAt bucket (k + 2)) ⌝ }
+{
+    let a = listed_at(bucket, k);
+    let b = listed_at(bucket, k + 1);
+    let c = listed_at(bucket, k + 2);
+    (3 << 30) | put_at(a, 26, 18) | put_at(b, 17, 9) | put_at(c, 8, 0)
+}
+
 // The words of a bucket; each field is cut to its bits.
 pub fn encode(bucket: Bucket) -> [u32; BUCKET_WORDS]
     ensures { λ r. ⌜ r ≡ encode bucket ⌝ }
@@ -75,16 +80,8 @@ pub fn encode(bucket: Bucket) -> [u32; BUCKET_WORDS]
         start_word(bucket.start, bucket.flag, listed_at(bucket, 0)),
         class_word(c[0], c[1], c[2], c[3], c[4]),
         total_word(c[5], c[6], c[7], bucket.total),
-        width_word(
-            listed_at(bucket, 1),
-            listed_at(bucket, 2),
-            listed_at(bucket, 3),
-        ),
-        width_word(
-            listed_at(bucket, 4),
-            listed_at(bucket, 5),
-            listed_at(bucket, 6),
-        ),
+        width_word(bucket, 1),
+        width_word(bucket, 4),
     ]
 }
 

@@ -3,7 +3,10 @@
 use words_rules::BUCKET_WORDS;
 use words_rules::HEAD_WORDS;
 ghost use mathlib.Core.Path.{_≡_};
+ghost use Rattle.laws.specs.Each.{some};
+ghost use Rattle.words_rules.specs.Words.{buckets};
 ghost use Rattle.words_rules.specs.Reading.{headFault, lengthFault, wordFault, startFault, widthFault, codeFault, readFault};
+ghost use Rattle.words_reading.specs.Private.Testing.{broken};
 
 // 7, from the length and the head words alone. Of the third only bits 19 to 0 may be set.
 fn head_fault(words: &[u32]) -> bool
@@ -25,17 +28,47 @@ fn length_fault(words: &[u32]) -> bool
     words.len() != HEAD_WORDS + BUCKET_WORDS * (words::bucket_count(words) as usize)
 }
 
-// 9
-fn word_fault(words: &[u32]) -> bool
-    ensures { λ r. ⌜ r ≡ wordFault (now (words .entry)) ⌝ }
+// What of a bucket is tested.
+enum Tested {
+    Words,
+    Widths,
+    Codes,
+}
+
+// Whether what is tested of bucket b is broken.
+fn is_broken(words: &[u32], b: usize, tested: Tested) -> bool
+    ensures { λ r. ⌜ r ≡ broken (now (words .entry)) tested b ⌝ }
+{
+    let packed = words::packed_at(words, b);
+    match tested {
+        Tested::Words => words_faults::words_broken(packed),
+        Tested::Widths => {
+            words_faults::widths_broken(words::span_at(words, b), words_fields::listed_sum(packed))
+        }
+        Tested::Codes => {
+            words_faults::codes_broken(words_fields::decode(packed, words::end_at(words, b)))
+        }
+    }
+}
+
+// The same of some bucket.
+fn has_broken(words: &[u32], tested: Tested) -> bool
+    ensures { λ r. ⌜ r ≡ some (buckets (now (words .entry))) (broken (now (words .entry)) tested) ⌝ }
 {
     let buckets = words::bucket_count(words) as usize;
     for b in 0..buckets {
-        if words_faults::words_broken(words::packed_at(words, b)) {
+        if is_broken(words, b, tested) {
             return true;
         }
     }
     false
+}
+
+// 9
+fn word_fault(words: &[u32]) -> bool
+    ensures { λ r. ⌜ r ≡ wordFault (now (words .entry)) ⌝ }
+{
+    has_broken(words, Tested::Words)
 }
 
 // 10
@@ -65,30 +98,14 @@ fn start_fault(words: &[u32]) -> bool
 fn width_fault(words: &[u32]) -> bool
     ensures { λ r. ⌜ r ≡ widthFault (now (words .entry)) ⌝ }
 {
-    let buckets = words::bucket_count(words) as usize;
-    for b in 0..buckets {
-        let listed = words_fields::listed_sum(words::packed_at(words, b));
-        if words_faults::widths_broken(words::span_at(words, b), listed) {
-            return true;
-        }
-    }
-    false
+    has_broken(words, Tested::Widths)
 }
 
 // 12
 fn code_fault(words: &[u32]) -> bool
     ensures { λ r. ⌜ r ≡ codeFault (now (words .entry)) ⌝ }
 {
-    let buckets = words::bucket_count(words) as usize;
-    for b in 0..buckets {
-        if words_faults::codes_broken(words_fields::decode(
-            words::packed_at(words, b),
-            words::end_at(words, b),
-        )) {
-            return true;
-        }
-    }
-    false
+    has_broken(words, Tested::Codes)
 }
 
 // The number of the first sentence of 7 to 12 that is true of a list, or 0 where it is a histogram.

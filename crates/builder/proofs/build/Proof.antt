@@ -18,9 +18,6 @@ use Rattle.builder.specs.declared.Built.the-variants.{Words, Refused}
 use Rattle.builder.proofs.build.Statement.{statement}
 use Rattle.builder.proofs.build.Tie as tie
 
-input-fault-requires : tie.Need-input-fault-requires
-input-fault-requires c κs = search needs
-
 returns : tie.Need-returns
 returns c =
     let a = c .before .before .before .before .args in
@@ -76,7 +73,7 @@ pub build-spec : {M : Type 1} → statement M
 build-spec =
     tie.close
     (tie.spec
-    input-fault-requires
+    (λ c κs. search needs)
     returns
     slice-aggregate-put-words
     put-words-requires

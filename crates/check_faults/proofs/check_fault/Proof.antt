@@ -9,9 +9,6 @@ use Rattle.fit.proofs.FaultLaws.{fault-of-list, fault-of-words, fault-of-length
 use Rattle.check_faults.proofs.check_fault.Statement.{statement}
 use Rattle.check_faults.proofs.check_fault.Tie as tie
 
-list-fault-requires : tie.Need-list-fault-requires
-list-fault-requires c κs = search needs
-
 returns : tie.Need-returns
 returns c =
     let a = c .before .before .before .before .args in
@@ -25,17 +22,11 @@ listed c = let e = c .before .list-fault .ensures in omega arith
 readable : (c : tie.Else2) → Readable (c .before .before .before .before .before .before .args .words .now)
 readable c = let e = c .before .read-fault .ensures in omega arith
 
-read-fault-requires : tie.Need-read-fault-requires
-read-fault-requires c κs = search needs
-
 returns-2 : tie.Need-returns-2
 returns-2 c =
     let a = c .before .before .before .before .before .before .args in
     let e = c .before .read-fault .ensures in
     e ∙ sym (fault-of-words (a .freqs .now) (a .words .now) (listed (c .before .before)) (λ z. omega arith))
-
-entry-count-requires : tie.Need-entry-count-requires
-entry-count-requires c κs = search needs
 
 cast-if3 : tie.Need-cast-if3
 cast-if3 c = search needs
@@ -56,11 +47,11 @@ pub check-fault-spec : {M : Type 1} → statement M
 check-fault-spec =
     tie.close
     (tie.spec
-    list-fault-requires
+    (λ c κs. search needs)
     returns
-    read-fault-requires
+    (λ c κs. search needs)
     returns-2
-    entry-count-requires
+    (λ c κs. search needs)
     cast-if3
     returns-3
     returns-4)

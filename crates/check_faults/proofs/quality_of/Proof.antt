@@ -4,11 +4,8 @@ use borrow.Author.Needs.{needs}
 use Rattle.check_faults.proofs.quality_of.Statement.{statement}
 use Rattle.check_faults.proofs.quality_of.Tie as tie
 
-head-at-requires : tie.Need-head-at-requires
-head-at-requires c κs = search needs
-
 returns : tie.Need-returns
 returns c = let head = c .before .before .before .head-at .ensures in λ i. record { theta = head i .theta; qn = head i .qn; qd = head i .qd }
 
 pub quality-of-spec : {M : Type 1} → statement M
-quality-of-spec = tie.close (tie.spec head-at-requires (λ c. search needs) (λ c. search needs) (λ c. search needs) returns)
+quality-of-spec = tie.close (tie.spec (λ c κs. search needs) (λ c. search needs) (λ c. search needs) (λ c. search needs) returns)

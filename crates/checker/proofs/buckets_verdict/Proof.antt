@@ -19,9 +19,6 @@ Inv-loop freqs words q buckets b₀ b = (b ≤ buckets) × ((m : ℕ) → m < b 
 abbrev μ-loop : tie.MeasureT-loop
 μ-loop freqs words q buckets b₀ b = buckets - b
 
-bucket-count-requires : tie.Need-bucket-count-requires Inv-loop μ-loop
-bucket-count-requires c κs = search needs
-
 cast-buckets : tie.Need-cast-buckets Inv-loop μ-loop
 cast-buckets c = search needs
 
@@ -32,9 +29,6 @@ bucket-verdict-requires : tie.Need-bucket-verdict-requires Inv-loop μ-loop
 bucket-verdict-requires c κs =
     let n = c .before .before .bucket-count .ensures in
     record { checkable = c .before .before .before .before .before .pre; is-bucket = omega arith }
-
-enum-told : tie.Need-enum-told Inv-loop μ-loop
-enum-told c = search needs
 
 returns : tie.Need-returns Inv-loop μ-loop
 returns c =
@@ -48,9 +42,6 @@ returns c =
 
 add-b : tie.Need-add-b Inv-loop μ-loop
 add-b c = search needs
-
-loop-less : tie.Need-loop-less Inv-loop μ-loop
-loop-less c = search needs
 
 loop-again : tie.Need-loop-again Inv-loop μ-loop
 loop-again c =
@@ -71,13 +62,13 @@ buckets-verdict-spec =
     (tie.spec
     Inv-loop
     μ-loop
-    bucket-count-requires
+    (λ c κs. search needs)
     cast-buckets
     loop-holds
     bucket-verdict-requires
-    enum-told
+    (λ c. search needs)
     returns
     add-b
-    loop-less
+    (λ c. search needs)
     loop-again
     returns-2)

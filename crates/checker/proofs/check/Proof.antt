@@ -23,17 +23,11 @@ use Rattle.checker.proofs.check.Tie as tie
 both : (fs ws : List ℕ) (v : Verdict) → v ≡ checkVerdict fs ws → (verdictReply v ≡ checkReply fs ws) × (v ≡ verdictOf (checkReply fs ws))
 both fs ws v e = (ap verdictReply e, e ∙ verdict-case fs ws)
 
-check-fault-requires : tie.Need-check-fault-requires
-check-fault-requires c κs = search needs
-
 returns : tie.Need-returns
 returns c =
     let a = c .before .before .before .before .args in
     let e = c .before .check-fault .ensures in
     both (a .freqs .now) (a .words .now) _ (ap Refused e ∙ sym (refused-verdict (a .freqs .now) (a .words .now) (λ z. omega arith)))
-
-quality-of-requires : tie.Need-quality-of-requires
-quality-of-requires c κs = search needs
 
 -- there is no fault
 passed : (c : tie.Else1) → let a = c .before .before .before .before .args in checkFault (a .freqs .now) (a .words .now) ≡ 0
@@ -57,4 +51,4 @@ returns-2 c =
 pub check-spec : {M : Type 1} → statement M
 check-spec =
     tie.close
-    (tie.spec check-fault-requires returns quality-of-requires buckets-verdict-requires returns-2)
+    (tie.spec (λ c κs. search needs) returns (λ c κs. search needs) buckets-verdict-requires returns-2)

@@ -9,39 +9,34 @@ use Rattle.estimate_rules.proofs.AskingLaws.{list-first, range-refused, no-faul
 use Rattle.estimator.proofs.ask_fault.Statement.{statement}
 use Rattle.estimator.proofs.ask_fault.Tie as tie
 
-read-fault-requires : tie.Need-read-fault-requires
-read-fault-requires c κs = search needs
-
 returns : tie.Need-returns
 returns c =
     let a = c .before .before .before .args in
     let r = c .before .read-fault .ensures in
     r ∙ sym (list-first (a .words .now) (a .x) (a .y) (λ e. omega arith))
 
+-- the list is a histogram
+readable : (c : tie.Else1) → Readable (c .before .before .before .args .words .now)
+readable c = omega (arith, c .before .read-fault .ensures)
+
 returns-2 : tie.Need-returns-2
 returns-2 c =
     let a = c .before .before .before .before .args in
-    let readable : Readable (a .words .now) = omega (arith, c .before .before .read-fault .ensures) in
-    sym (range-refused (a .words .now) (a .x) (a .y) readable (inl (omega arith)))
-
-entry-count-requires : tie.Need-entry-count-requires
-entry-count-requires c κs = search needs
+    sym (range-refused (a .words .now) (a .x) (a .y) (readable (c .before)) (inl (omega arith)))
 
 returns-3 : tie.Need-returns-3
 returns-3 c =
     let a = c .before .before .before .before .before .before .args in
-    let readable : Readable (a .words .now) = omega (arith, c .before .before .before .before .read-fault .ensures) in
     let d = c .before .entry-count .ensures in
-    sym (range-refused (a .words .now) (a .x) (a .y) readable (inr (omega arith)))
+    sym (range-refused (a .words .now) (a .x) (a .y) (readable (c .before .before .before)) (inr (omega arith)))
 
 returns-4 : tie.Need-returns-4
 returns-4 c =
     let a = c .before .before .before .before .before .before .args in
-    let readable : Readable (a .words .now) = omega (arith, c .before .before .before .before .read-fault .ensures) in
     let d = c .before .entry-count .ensures in
-    sym (no-fault (a .words .now) (a .x) (a .y) readable (omega arith) (omega arith))
+    sym (no-fault (a .words .now) (a .x) (a .y) (readable (c .before .before .before)) (omega arith) (omega arith))
 
 pub ask-fault-spec : {M : Type 1} → statement M
 ask-fault-spec =
     tie.close
-    (tie.spec read-fault-requires returns returns-2 entry-count-requires returns-3 returns-4)
+    (tie.spec (λ c κs. search needs) returns returns-2 (λ c κs. search needs) returns-3 returns-4)

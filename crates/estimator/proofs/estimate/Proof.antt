@@ -14,9 +14,6 @@ use Rattle.estimator.specs.declared.Asked.the-variants.{Estimate, Refuse
 use Rattle.estimator.proofs.estimate.Statement.{statement}
 use Rattle.estimator.proofs.estimate.Tie as tie
 
-ask-fault-requires : tie.Need-ask-fault-requires
-ask-fault-requires c κs = search needs
-
 returns : tie.Need-returns
 returns c =
     let a = c .before .before .before .args in
@@ -56,4 +53,4 @@ returns-3 c =
 pub estimate-spec : {M : Type 1} → statement M
 estimate-spec =
     tie.close
-    (tie.spec ask-fault-requires returns returns-2 exact-of-requires rounded-of-requires returns-3)
+    (tie.spec (λ c κs. search needs) returns returns-2 exact-of-requires rounded-of-requires returns-3)

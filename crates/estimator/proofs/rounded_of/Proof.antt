@@ -12,15 +12,6 @@ use Rattle.estimator.proofs.rounded_of.Tie as tie
 quotient-small : (w x b : ℕ) → w + x < 2 ^ 64 → w + x / b < 2 ^ 64
 quotient-small w x b h = omega (arith, div-le-self x b)
 
-sub-result : tie.Need-sub-result
-sub-result c = search needs
-
-add-result : tie.Need-add-result
-add-result c = search needs
-
-div-result : tie.Need-div-result
-div-result c = search needs
-
 add-result-2 : tie.Need-add-result-2
 add-result-2 c =
     let e = c .before .before .before .before .args .e in
@@ -33,4 +24,4 @@ returns c =
     ap (λ (n : ℕ). e .whole + n / e .bottom) {y = e .top + (e .bottom - 1)} (omega arith)
 
 pub rounded-of-spec : {M : Type 1} → statement M
-rounded-of-spec = tie.close (tie.spec sub-result add-result div-result add-result-2 returns)
+rounded-of-spec = tie.close (tie.spec (λ c. search needs) (λ c. search needs) (λ c. search needs) add-result-2 returns)

@@ -37,9 +37,6 @@ Inv-loop words entry low₀ high₀ low high = Between words entry low high
 abbrev μ-loop : tie.MeasureT-loop
 μ-loop words entry low₀ high₀ low high = high - low
 
-bucket-count-requires : tie.Need-bucket-count-requires Inv-loop μ-loop
-bucket-count-requires c κs = search needs
-
 cast-high : tie.Need-cast-high Inv-loop μ-loop
 cast-high c = search needs
 
@@ -64,9 +61,6 @@ sub-middle c = omega arith
 
 add-middle : tie.Need-add-middle Inv-loop μ-loop
 add-middle c = omega arith
-
-start-at-requires : tie.Need-start-at-requires Inv-loop μ-loop
-start-at-requires c κs = search needs
 
 loop-less : tie.Need-loop-less Inv-loop μ-loop
 loop-less c = omega arith
@@ -102,13 +96,13 @@ bucket-of-spec =
     (tie.spec
     Inv-loop
     μ-loop
-    bucket-count-requires
+    (λ c κs. search needs)
     cast-high
     loop-holds
     add-loop
     sub-middle
     add-middle
-    start-at-requires
+    (λ c κs. search needs)
     loop-less
     loop-again
     loop-less-2

@@ -9,6 +9,7 @@ use lib.ListN.{length, take, drop}
 use Rattle.laws.specs.Reply.{Reply, answered}
 use Rattle.words_rules.specs.Finding.{findReply, found}
 use Rattle.words_rules.proofs.EntryLaws.{found-none, found-part, place-fault, place-no-fault, place-is, bucket-within}
+use Rattle.words_rules.specs.Words.{bucketWords}
 use Rattle.finder.specs.Place.{placeReply}
 use Rattle.finder.proofs.find.Statement.{statement}
 use Rattle.finder.proofs.find.Tie as tie
@@ -19,7 +20,7 @@ placed : (c : tie.After-known-told)
     answered (c .before .at .given .0 .0) ≡ findReply (a .words .now) (a .entry)
 placed c = ap placeReply (sym (c .before .at .given .1)) ∙ c .before .before .before .find-place .ensures .0
 
-within : (c : tie.After-known-told) → c .before .at .given .0 .0 + 5 ≤ length (c .before .before .before .before .before .args .words .now)
+within : (c : tie.After-known-told) → c .before .at .given .0 .0 + bucketWords ≤ length (c .before .before .before .before .before .args .words .now)
 within c =
     let a = c .before .before .before .before .before .args in
     let at = c .before .at .given .0 .0 in
@@ -29,15 +30,6 @@ within c =
 packed-from : (ws : List ℕ) (e n at : ℕ) → answered at ≡ findReply ws e → n ≡ 5 → take n (drop at ws) ≡ found ws e
 packed-from ws e n at r p =
     (λ i. take (p i) (drop (place-is ws e at r i) ws)) ∙ sym (found-part ws e (place-no-fault ws e at r))
-
-find-place-requires : tie.Need-find-place-requires
-find-place-requires c κs = search needs
-
-enum-known-at : tie.Need-enum-known-at
-enum-known-at c = search needs
-
-enum-told : tie.Need-enum-told
-enum-told c = search needs
 
 sub-result : tie.Need-sub-result
 sub-result c = search needs
@@ -74,15 +66,15 @@ returns-2 : tie.Need-returns-2
 returns-2 c =
     let a = c .before .before .before .before .before .before .args in
     let at = c .before .before .at .given .0 .0 in
-    (packed-from (a .words .now) (a .entry) (at + 5 - at) at (placed (c .before)) (omega arith), (refl, omega (arith, ap (λ (r : Reply). r .value) (placed (c .before)))))
+    (packed-from (a .words .now) (a .entry) (at + bucketWords - at) at (placed (c .before)) (omega arith), (refl, omega (arith, ap (λ (r : Reply). r .value) (placed (c .before)))))
 
 pub find-spec : {M : Type 1} → statement M
 find-spec =
     tie.close
     (tie.spec
-    find-place-requires
-    enum-known-at
-    enum-told
+    (λ c κs. search needs)
+    (λ c. search needs)
+    (λ c. search needs)
     sub-result
     part-result-start
     part-result-end

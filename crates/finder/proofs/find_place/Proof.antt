@@ -8,6 +8,7 @@ use lib.ListN.{length}
 use Rattle.laws.proofs.ReplyLaws.{answered-case, refused-case}
 use Rattle.words_rules.specs.Finding.{findFault}
 use Rattle.words_rules.proofs.EntryLaws.{found-readable, found-below, place-refused, place-found, bucket-within}
+use Rattle.words_rules.specs.Words.{headWords, bucketWords}
 use Rattle.finder.specs.declared.Place.the-variants.{At, Refused}
 use Rattle.finder.proofs.find_place.Statement.{statement}
 use Rattle.finder.proofs.find_place.Tie as tie
@@ -15,13 +16,10 @@ use Rattle.finder.proofs.find_place.Tie as tie
 no-fault : (c : tie.Else1) → let a = c .before .before .before .args in findFault (a .words .now) (a .entry) ≡ 0
 no-fault c = omega (arith, c .before .find-fault .ensures)
 
-within : (c : tie.After-bucket-of) → 4 + 5 * c .bucket-of .result + 5 ≤ length (c .before .before .before .before .args .words .now)
+within : (c : tie.After-bucket-of) → headWords + bucketWords * c .bucket-of .result + bucketWords ≤ length (c .before .before .before .before .args .words .now)
 within c =
     let a = c .before .before .before .before .args in
     omega (arith, c .bucket-of .ensures, bucket-within (a .words .now) (a .entry) (no-fault (c .before)))
-
-find-fault-requires : tie.Need-find-fault-requires
-find-fault-requires c κs = search needs
 
 returns : tie.Need-returns
 returns c =
@@ -47,4 +45,4 @@ returns-2 c =
 
 pub find-place-spec : {M : Type 1} → statement M
 find-place-spec =
-    tie.close (tie.spec find-fault-requires returns bucket-of-requires mul-t6 add-t7 returns-2)
+    tie.close (tie.spec (λ c κs. search needs) returns bucket-of-requires mul-t6 add-t7 returns-2)

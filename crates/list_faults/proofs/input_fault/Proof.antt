@@ -9,18 +9,12 @@ use Rattle.list_rules.specs.Quality.{qualitySentences}
 use Rattle.list_faults.proofs.input_fault.Statement.{statement}
 use Rattle.list_faults.proofs.input_fault.Tie as tie
 
-list-fault-requires : tie.Need-list-fault-requires
-list-fault-requires c κs = search needs
-
 returns : tie.Need-returns
 unfolding numbered
 returns c =
     let a = c .before .before .before .args in
     let e = c .before .list-fault .ensures in
     e ∙ sym (append-refused (listSentences (a .freqs .now)) (qualitySentences (a .theta) (a .qn) (a .qd)) refl (λ z. omega arith))
-
-quality-fault-requires : tie.Need-quality-fault-requires
-quality-fault-requires c κs = search needs
 
 returns-2 : tie.Need-returns-2
 unfolding numbered
@@ -30,4 +24,4 @@ returns-2 c =
     c .quality-fault .ensures ∙ sym (append-passed (listSentences (a .freqs .now)) (qualitySentences (a .theta) (a .qn) (a .qd)) refl (omega arith))
 
 pub input-fault-spec : {M : Type 1} → statement M
-input-fault-spec = tie.close (tie.spec list-fault-requires returns quality-fault-requires returns-2)
+input-fault-spec = tie.close (tie.spec (λ c κs. search needs) returns (λ c κs. search needs) returns-2)

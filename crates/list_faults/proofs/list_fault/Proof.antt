@@ -7,22 +7,24 @@ use Prim.Native.Nat.{ℕ, _≤_, _<_}
 use native.Mathlib.Omega.{arith}
 use borrow.Author.Needs.{needs}
 use borrow.Author.Tests.{lt-ltb, le-ltb}
-use lib.ListN.{length}
+use lib.ListN.{length, drop}
 use Rattle.laws.specs.Sums.{sum}
+use Rattle.laws.specs.Refusal.{refusal}
 use Rattle.laws.proofs.Tests.{is-false, not-holds}
 use Rattle.laws.proofs.RefusalLaws.{refused, passed, none-left}
-use Rattle.list_rules.specs.Frequencies.{entriesFault, sumFault}
+use Rattle.list_rules.specs.Frequencies.{entriesFault, sumFault, listSentences, listFault}
 use Rattle.laws.proofs.BetweenLaws.{within, is-within}
+use Rattle.list_rules.specs.Limits.{maxEntries}
 use Rattle.list_faults.proofs.list_fault.Statement.{statement}
 use Rattle.list_faults.proofs.list_fault.Tie as tie
 
-wrong-length : (fs : List ℕ) → (1 ≤ length fs → length fs ≤ 65536 → ⊥) → entriesFault fs ≡ true
+wrong-length : (fs : List ℕ) → (1 ≤ length fs → length fs ≤ maxEntries → ⊥) → entriesFault fs ≡ true
 unfolding entriesFault
-wrong-length fs h = not-holds _ (is-false _ (λ t. let b = within 1 65536 (length fs) t in h (b .least) (b .most)))
+wrong-length fs h = not-holds _ (is-false _ (λ t. let b = within 1 maxEntries (length fs) t in h (b .least) (b .most)))
 
-right-length : (fs : List ℕ) → 1 ≤ length fs → length fs ≤ 65536 → entriesFault fs ≡ false
+right-length : (fs : List ℕ) → 1 ≤ length fs → length fs ≤ maxEntries → entriesFault fs ≡ false
 unfolding entriesFault
-right-length fs h l = ap not (is-within 1 65536 (length fs) (record { least = h; most = l }))
+right-length fs h l = ap not (is-within 1 maxEntries (length fs) (record { least = h; most = l }))
 
 large-sum : (fs : List ℕ) (s : ℕ) → s ≡ sum fs → 1073741823 < s → sumFault fs ≡ true
 unfolding sumFault
@@ -38,9 +40,6 @@ returns c = sym (refused _ _ (wrong-length (c .before .before .args .freqs .now)
 returns-2 : tie.Need-returns-2
 returns-2 c = sym (refused _ _ (wrong-length (c .before .before .before .args .freqs .now) (λ h l. omega arith)))
 
-has-zero-requires : tie.Need-has-zero-requires
-has-zero-requires c κs = search needs
-
 returns-3 : tie.Need-returns-3
 returns-3 c =
     let fs = c .before .before .before .before .before .args .freqs .now in
@@ -49,22 +48,21 @@ returns-3 c =
 sum-of-requires : tie.Need-sum-of-requires
 sum-of-requires c κs = search needs
 
+-- sentences 1 and 2 are false
+two-passed : (c : tie.Else3) → let fs = c .before .before .before .before .before .args .freqs .now in listFault fs ≡ refusal (drop 2 (listSentences fs))
+two-passed c =
+    let fs = c .before .before .before .before .before .args .freqs .now in
+    passed _ _ (right-length fs (omega arith) (omega arith)) ∙ passed _ _ (sym (c .before .has-zero .ensures) ∙ c .if3 .left)
+
 returns-4 : tie.Need-returns-4
 returns-4 c =
-    let fs = c .before .before .before .before .before .before .before .args .freqs .now in
-    sym
-    (passed _ _ (right-length fs (omega arith) (omega arith))
-    ∙ passed _ _ (sym (c .before .before .before .has-zero .ensures) ∙ c .before .before .if3 .left)
-    ∙ refused _ _ (large-sum fs _ (c .before .sum-of .ensures) (omega arith)))
+    let two = two-passed (c .before .before) in
+    sym (two ∙ refused _ _ (large-sum _ _ (c .before .sum-of .ensures) (omega arith)))
 
 returns-5 : tie.Need-returns-5
 returns-5 c =
-    let fs = c .before .before .before .before .before .before .before .args .freqs .now in
-    sym
-    (passed _ _ (right-length fs (omega arith) (omega arith))
-    ∙ passed _ _ (sym (c .before .before .before .has-zero .ensures) ∙ c .before .before .if3 .left)
-    ∙ passed _ _ (small-sum fs _ (c .before .sum-of .ensures) (omega arith))
-    ∙ none-left)
+    let two = two-passed (c .before .before) in
+    sym (two ∙ passed _ _ (small-sum _ _ (c .before .sum-of .ensures) (omega arith)) ∙ none-left)
 
 pub list-fault-spec : {M : Type 1} → statement M
-list-fault-spec = tie.close (tie.spec returns returns-2 has-zero-requires returns-3 sum-of-requires returns-4 returns-5)
+list-fault-spec = tie.close (tie.spec returns returns-2 (λ c κs. search needs) returns-3 sum-of-requires returns-4 returns-5)

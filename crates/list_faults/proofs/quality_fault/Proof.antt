@@ -7,14 +7,8 @@ use Rattle.laws.proofs.RefusalLaws.{refused, passed, none-left}
 use Rattle.list_faults.proofs.quality_fault.Statement.{statement}
 use Rattle.list_faults.proofs.quality_fault.Tie as tie
 
-theta-good-requires : tie.Need-theta-good-requires
-theta-good-requires c κs = search needs
-
 returns : tie.Need-returns
 returns c = sym (refused _ _ (ap not (sym (c .before .theta-good .ensures)) ∙ c .if1 .taken))
-
-q-good-requires : tie.Need-q-good-requires
-q-good-requires c κs = search needs
 
 returns-2 : tie.Need-returns-2
 returns-2 c =
@@ -25,4 +19,4 @@ returns-3 c =
     sym (passed _ _ (ap not (sym (c .before .before .before .theta-good .ensures)) ∙ c .before .before .if1 .left) ∙ passed _ _ (ap not (sym (c .before .q-good .ensures)) ∙ c .if2 .left) ∙ none-left)
 
 pub quality-fault-spec : {M : Type 1} → statement M
-quality-fault-spec = tie.close (tie.spec theta-good-requires returns q-good-requires returns-2 returns-3)
+quality-fault-spec = tie.close (tie.spec (λ c κs. search needs) returns (λ c κs. search needs) returns-2 returns-3)

@@ -6,15 +6,6 @@ use Rattle.words_rules.specs.Decoded.{decode}
 use Rattle.words.proofs.bucket_at.Statement.{statement}
 use Rattle.words.proofs.bucket_at.Tie as tie
 
-packed-at-requires : tie.Need-packed-at-requires
-packed-at-requires c κs = search needs
-
-end-at-requires : tie.Need-end-at-requires
-end-at-requires c κs = search needs
-
-decode-requires : tie.Need-decode-requires
-decode-requires c κs = search needs
-
 returns : tie.Need-returns
 returns c =
     let packed = c .before .before .packed-at .ensures in
@@ -22,4 +13,4 @@ returns c =
     c .decode .ensures ∙ (λ i. decode (packed i) (end i))
 
 pub bucket-at-spec : {M : Type 1} → statement M
-bucket-at-spec = tie.close (tie.spec packed-at-requires end-at-requires decode-requires returns)
+bucket-at-spec = tie.close (tie.spec (λ c κs. search needs) (λ c κs. search needs) (λ c κs. search needs) returns)

@@ -16,9 +16,6 @@ add-word-at c = search needs
 add-word-at-2 : tie.Need-add-word-at-2
 add-word-at-2 c = search needs
 
-word-at-requires : tie.Need-word-at-requires
-word-at-requires c κs = search needs
-
 returns : tie.Need-returns
 returns c = c .word-at .ensures
 
@@ -27,4 +24,4 @@ returns-2 c = sym (List·getD-eq-default (c .before .before .args .words .now) 0
 
 pub bucket-word-spec : {M : Type 1} → statement M
 bucket-word-spec =
-    tie.close (tie.spec mul-word-at add-word-at add-word-at-2 word-at-requires returns returns-2)
+    tie.close (tie.spec mul-word-at add-word-at add-word-at-2 (λ c κs. search needs) returns returns-2)

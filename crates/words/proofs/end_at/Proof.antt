@@ -9,9 +9,6 @@ use Rattle.words_rules.proofs.StartLaws.{end-next, end-last}
 use Rattle.words.proofs.end_at.Statement.{statement}
 use Rattle.words.proofs.end_at.Tie as tie
 
-bucket-count-requires : tie.Need-bucket-count-requires
-bucket-count-requires c κs = search needs
-
 cast-buckets : tie.Need-cast-buckets
 cast-buckets c = search needs
 
@@ -21,16 +18,10 @@ add-if2 c = search needs
 add-start-at : tie.Need-add-start-at
 add-start-at c = search needs
 
-start-at-requires : tie.Need-start-at-requires
-start-at-requires c κs = search needs
-
 returns : tie.Need-returns
 returns c =
     let a = c .before .before .before .before .before .args in
     c .start-at .ensures ∙ sym (end-next (a .words .now) (a .b) (omega (arith, ltb-true, leb-true, c .before .before .before .bucket-count .ensures)))
-
-entry-count-requires : tie.Need-entry-count-requires
-entry-count-requires c κs = search needs
 
 returns-2 : tie.Need-returns-2
 returns-2 c =
@@ -43,11 +34,11 @@ pub end-at-spec : {M : Type 1} → statement M
 end-at-spec =
     tie.close
     (tie.spec
-    bucket-count-requires
+    (λ c κs. search needs)
     cast-buckets
     add-if2
     add-start-at
-    start-at-requires
+    (λ c κs. search needs)
     returns
-    entry-count-requires
+    (λ c κs. search needs)
     returns-2)

@@ -5,12 +5,9 @@ use mathlib.Core.List.{[], _∷_}
 use Prim.Native.Nat.{ℕ, _+_, _*_}
 use native.Mathlib.Nat.{add-zero}
 use borrow.Author.Needs.{needs}
-use Rattle.words_rules.specs.Words.{word, place}
+use Rattle.words_rules.specs.Words.{word, place, headWords, bucketWords}
 use Rattle.words.proofs.packed_at.Statement.{statement}
 use Rattle.words.proofs.packed_at.Tie as tie
-
-packed-or-zeros-requires : tie.Need-packed-or-zeros-requires
-packed-or-zeros-requires c κs = search needs
 
 returns : tie.Need-returns
 returns c = search needs
@@ -23,9 +20,6 @@ add-at c = search needs
 
 add-if2 : tie.Need-add-if2
 add-if2 c = search needs
-
-packed-or-zeros-requires-2 : tie.Need-packed-or-zeros-requires-2
-packed-or-zeros-requires-2 c κs = search needs
 
 returns-2 : tie.Need-returns-2
 returns-2 c = search needs
@@ -76,18 +70,18 @@ returns-3 : tie.Need-returns-3
 returns-3 c =
     let a = c .before .before .before .before .before .before .before .before .args in
     let ws = a .words .now in
-    ap (λ (k : ℕ). word ws k ∷ word ws (place (a .b) 1) ∷ word ws (place (a .b) 2) ∷ word ws (place (a .b) 3) ∷ word ws (place (a .b) 4) ∷ []) (sym (add-zero (4 + 5 * a .b)))
+    ap (λ (k : ℕ). word ws k ∷ word ws (place (a .b) 1) ∷ word ws (place (a .b) 2) ∷ word ws (place (a .b) 3) ∷ word ws (place (a .b) 4) ∷ []) (sym (add-zero (headWords + bucketWords * a .b)))
 
 pub packed-at-spec : {M : Type 1} → statement M
 packed-at-spec =
     tie.close
     (tie.spec
-    packed-or-zeros-requires
+    (λ c κs. search needs)
     returns
     mul-at
     add-at
     add-if2
-    packed-or-zeros-requires-2
+    (λ c κs. search needs)
     returns-2
     mul-t4
     shared-slice-read-t8

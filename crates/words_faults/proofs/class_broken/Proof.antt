@@ -20,9 +20,6 @@ returns c =
     let e = eqb-true (a .width) 0 (not-false _ f) in
     no-class-fault _ _ (record { known = λ n. absurd (n (omega arith)); empty = λ _. omega arith; full = λ _. e }))
 
-is-class-requires : tie.Need-is-class-requires
-is-class-requires c κs = search needs
-
 returns-2 : tie.Need-returns-2
 returns-2 c =
     let a = c .before .before .before .args in
@@ -38,4 +35,4 @@ returns-3 c =
     (λ f. no-class-fault _ _ (record { known = λ _. used; empty = λ e. absurd (omega (arith, eqb-false)); full = λ e. absurd (omega arith) }))
 
 pub class-broken-spec : {M : Type 1} → statement M
-class-broken-spec = tie.close (tie.spec returns is-class-requires returns-2 returns-3)
+class-broken-spec = tie.close (tie.spec returns (λ c κs. search needs) returns-2 returns-3)

@@ -2,14 +2,13 @@
 -- eight.
 -- Assumes nothing.
 use borrow.Author.Needs.{needs}
-use mathlib.Core.Path.{_≡_, sym, ap, _∙_}
-use mathlib.Core.Bool.{Bool, false, not, _||_}
-use Prim.Native.Nat.{ℕ, _-_, _≤_, _<_}
+use mathlib.Core.Path.{sym, ap, _∙_}
+use mathlib.Core.Bool.{Bool, not, _||_}
+use Prim.Native.Nat.{ℕ, _-_}
 use native.Mathlib.Omega.{arith}
-use borrow.Author.Count.{below-more}
 use lib.ListN.{getD}
 use Rattle.laws.specs.Each.{some}
-use Rattle.laws.proofs.EachLaws.{some-at, some-none}
+use Rattle.laws.proofs.EachLaws.{some-at, NoneBefore, none-yet, none-more, none-found}
 use Rattle.laws.proofs.Tests.{holds-left}
 use Rattle.counts_rules.specs.Total.{validCode}
 use Rattle.words_rules.specs.Reading.{classBroken, codesBroken}
@@ -22,13 +21,10 @@ abbrev brokenAt : Bucket → ℕ → Bool
 brokenAt r k = classBroken (widthAt r k) (getD (r .classes) k 0)
 
 abbrev Inv-loop : tie.InvT-loop
-Inv-loop bucket k₀ k = (k ≤ 8) × ((i : ℕ) → i < k → brokenAt bucket i ≡ false)
+Inv-loop bucket k₀ k = NoneBefore 8 (brokenAt bucket) k
 
 abbrev μ-loop : tie.MeasureT-loop
 μ-loop bucket k₀ k = 8 - k
-
-loop-holds : tie.Need-loop-holds Inv-loop μ-loop
-loop-holds c = (search needs, λ i h. absurd (omega arith))
 
 mul-class-broken : tie.Need-mul-class-broken Inv-loop μ-loop
 mul-class-broken c = omega arith
@@ -42,37 +38,25 @@ mul-class-broken-2 c = omega arith
 element-copy-out-class-broken-2 : tie.Need-element-copy-out-class-broken-2 Inv-loop μ-loop
 element-copy-out-class-broken-2 c = omega arith
 
-class-broken-requires : tie.Need-class-broken-requires Inv-loop μ-loop
-class-broken-requires c κs = search needs
-
 returns : tie.Need-returns Inv-loop μ-loop
 unfolding codesBroken
 returns c =
     let r = c .before .before .before .before .before .before .args .t1 in
     let k = c .before .before .before .before .before .loop .k in
-    sym (holds-left (some 8 (brokenAt r)) _ (some-at 8 (brokenAt r) k (omega arith) (sym (c .before .class-broken .ensures) ∙ c .if1 .taken)))
+    sym (holds-left (some 8 (brokenAt r)) _ (some-at _ _ k (omega arith) (sym (c .before .class-broken .ensures) ∙ c .if1 .taken)))
 
 add-k : tie.Need-add-k Inv-loop μ-loop
 add-k c = search needs
 
-loop-less : tie.Need-loop-less Inv-loop μ-loop
-loop-less c = search needs
-
 loop-again : tie.Need-loop-again Inv-loop μ-loop
 loop-again c =
-    let k = c .before .before .before .before .before .loop in
-    (search needs, below-more _ _ (k .inv .1) (sym (c .before .class-broken .ensures) ∙ c .if1 .left))
-
-is-total-code-requires : tie.Need-is-total-code-requires Inv-loop μ-loop
-is-total-code-requires c κs = search needs
+    none-more _ _ _ (omega arith) (c .before .before .before .before .before .loop .inv) (sym (c .before .class-broken .ensures) ∙ c .if1 .left)
 
 returns-2 : tie.Need-returns-2 Inv-loop μ-loop
 unfolding codesBroken
 returns-2 c =
     let r = c .before .before .before .args .t1 in
-    let l = c .before .before .loop in
-    let none : some 8 (brokenAt r) ≡ false = some-none 8 (brokenAt r) (λ i h. l .inv .1 i (omega arith)) in
-    ap not (c .is-total-code .ensures) ∙ ap (λ (t : Bool). t || not (validCode (r .total))) (sym none)
+    ap not (c .is-total-code .ensures) ∙ ap (λ (t : Bool). t || not (validCode (r .total))) (none-found _ _ _ (omega arith) (c .before .before .loop .inv))
 
 pub codes-broken-spec : {M : Type 1} → statement M
 codes-broken-spec =
@@ -80,15 +64,15 @@ codes-broken-spec =
     (tie.spec
     Inv-loop
     μ-loop
-    loop-holds
+    (λ c. none-yet _ _)
     mul-class-broken
     element-copy-out-class-broken
     mul-class-broken-2
     element-copy-out-class-broken-2
-    class-broken-requires
+    (λ c κs. search needs)
     returns
     add-k
-    loop-less
+    (λ c. search needs)
     loop-again
-    is-total-code-requires
+    (λ c κs. search needs)
     returns-2)

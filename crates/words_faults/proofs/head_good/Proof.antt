@@ -10,17 +10,11 @@ use Rattle.list_rules.specs.Limits.{entriesGood, thetaGood, qGood}
 use Rattle.words_faults.proofs.head_good.Statement.{statement}
 use Rattle.words_faults.proofs.head_good.Tie as tie
 
-entries-good-requires : tie.Need-entries-good-requires
-entries-good-requires c κs = search needs
-
 returns : tie.Need-returns
 returns c =
     let h = c .before .before .args .head in
     let d : entriesGood (h .entries) ≡ false = sym (c .before .entries-good .ensures) ∙ not-true _ (c .if1 .taken) in
     sym (is-false _ (λ g. true-not-false (good-head h g .entries) d))
-
-theta-good-requires : tie.Need-theta-good-requires
-theta-good-requires c κs = search needs
 
 returns-2 : tie.Need-returns-2
 returns-2 c =
@@ -28,17 +22,11 @@ returns-2 c =
     let t : thetaGood (h .theta) ≡ false = sym (c .before .theta-good .ensures) ∙ not-true _ (c .if2 .taken) in
     sym (is-false _ (λ g. true-not-false (good-head h g .theta) t))
 
-q-good-requires : tie.Need-q-good-requires
-q-good-requires c κs = search needs
-
 returns-3 : tie.Need-returns-3
 returns-3 c =
     let h = c .before .before .before .before .before .before .args .head in
     let q : qGood (h .qn) (h .qd) ≡ false = sym (c .before .q-good .ensures) ∙ not-true _ (c .if3 .taken) in
     sym (is-false _ (λ g. true-not-false (good-head h g .q) q))
-
-is-between-requires : tie.Need-is-between-requires
-is-between-requires c κs = search needs
 
 returns-4 : tie.Need-returns-4
 returns-4 c =
@@ -52,11 +40,11 @@ pub head-good-spec : {M : Type 1} → statement M
 head-good-spec =
     tie.close
     (tie.spec
-    entries-good-requires
+    (λ c κs. search needs)
     returns
-    theta-good-requires
+    (λ c κs. search needs)
     returns-2
-    q-good-requires
+    (λ c κs. search needs)
     returns-3
-    is-between-requires
+    (λ c κs. search needs)
     returns-4)

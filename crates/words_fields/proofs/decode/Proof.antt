@@ -10,14 +10,8 @@ use Rattle.words_rules.proofs.DecodedLaws.{listed-bits}
 use Rattle.words_fields.proofs.decode.Statement.{statement}
 use Rattle.words_fields.proofs.decode.Tie as tie
 
-listed-of-requires : tie.Need-listed-of-requires
-listed-of-requires c κs = search needs
-
 array-read-start-of : tie.Need-array-read-start-of
 array-read-start-of c = search needs
-
-start-of-requires : tie.Need-start-of-requires
-start-of-requires c κs = search needs
 
 array-read-field-of : tie.Need-array-read-field-of
 array-read-field-of c = search needs
@@ -25,20 +19,8 @@ array-read-field-of c = search needs
 field-of-requires : tie.Need-field-of-requires
 field-of-requires c κs = search needs
 
-left-of-requires : tie.Need-left-of-requires
-left-of-requires c κs = search needs
-
 sum-of-requires : tie.Need-sum-of-requires
 sum-of-requires c κs = listed-bits (c .before .before .before .before .args .t1) (c .before .before .before .listed-of .result) (c .before .before .before .listed-of .ensures)
-
-left-of-requires-2 : tie.Need-left-of-requires-2
-left-of-requires-2 c κs = search needs
-
-with-free-requires : tie.Need-with-free-requires
-with-free-requires c κs = search needs
-
-classes-of-requires : tie.Need-classes-of-requires
-classes-of-requires c κs = search needs
 
 array-read-field-of-2 : tie.Need-array-read-field-of-2
 array-read-field-of-2 c = search needs
@@ -65,16 +47,16 @@ pub decode-spec : {M : Type 1} → statement M
 decode-spec =
     tie.close
     (tie.spec
-    listed-of-requires
+    (λ c κs. search needs)
     array-read-start-of
-    start-of-requires
+    (λ c κs. search needs)
     array-read-field-of
     field-of-requires
-    left-of-requires
+    (λ c κs. search needs)
     sum-of-requires
-    left-of-requires-2
-    with-free-requires
-    classes-of-requires
+    (λ c κs. search needs)
+    (λ c κs. search needs)
+    (λ c κs. search needs)
     array-read-field-of-2
     field-of-requires-2
     returns)

@@ -6,18 +6,6 @@ use Rattle.laws.proofs.FieldLaws.{shifted-pos, field-masked}
 use Rattle.words_fields.proofs.field_of.Statement.{statement}
 use Rattle.words_fields.proofs.field_of.Tie as tie
 
-shr-result : tie.Need-shr-result
-shr-result c = search needs
-
-add-result : tie.Need-add-result
-add-result c = search needs
-
-sub-result : tie.Need-sub-result
-sub-result c = search needs
-
-shl-result : tie.Need-shl-result
-shl-result c = search needs
-
 sub-result-2 : tie.Need-sub-result-2
 sub-result-2 c = shifted-pos _ (omega arith)
 
@@ -26,4 +14,4 @@ returns c = field-masked (c .args .word) (c .args .hi) (c .args .lo) (omega arit
 
 pub field-of-spec : {M : Type 1} → statement M
 field-of-spec =
-    tie.close (tie.spec shr-result add-result sub-result shl-result sub-result-2 returns)
+    tie.close (tie.spec (λ c. search needs) (λ c. search needs) (λ c. search needs) (λ c. search needs) sub-result-2 returns)

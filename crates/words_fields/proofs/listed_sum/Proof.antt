@@ -7,9 +7,6 @@ use Rattle.words_rules.proofs.DecodedLaws.{listed-bits}
 use Rattle.words_fields.proofs.listed_sum.Statement.{statement}
 use Rattle.words_fields.proofs.listed_sum.Tie as tie
 
-listed-of-requires : tie.Need-listed-of-requires
-listed-of-requires c κs = search needs
-
 sum-of-requires : tie.Need-sum-of-requires
 sum-of-requires c κs = listed-bits (c .before .args .packed) (c .listed-of .result) (c .listed-of .ensures)
 
@@ -17,4 +14,4 @@ returns : tie.Need-returns
 returns c = c .sum-of .ensures ∙ ap sum (c .before .listed-of .ensures)
 
 pub listed-sum-spec : {M : Type 1} → statement M
-listed-sum-spec = tie.close (tie.spec listed-of-requires sum-of-requires returns)
+listed-sum-spec = tie.close (tie.spec (λ c κs. search needs) sum-of-requires returns)

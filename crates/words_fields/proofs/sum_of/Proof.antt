@@ -9,41 +9,20 @@ use Rattle.words_rules.proofs.DecodedLaws.{by-elements}
 use Rattle.words_fields.proofs.sum_of.Statement.{statement}
 use Rattle.words_fields.proofs.sum_of.Tie as tie
 
-array-read-result : tie.Need-array-read-result
-array-read-result c = search needs
-
-array-read-result-2 : tie.Need-array-read-result-2
-array-read-result-2 c = search needs
-
 add-result : tie.Need-add-result
 add-result c = omega (arith, c .pre 0, c .pre 1)
-
-array-read-result-3 : tie.Need-array-read-result-3
-array-read-result-3 c = search needs
 
 add-result-2 : tie.Need-add-result-2
 add-result-2 c = omega (arith, c .pre 0, c .pre 1, c .pre 2)
 
-array-read-result-4 : tie.Need-array-read-result-4
-array-read-result-4 c = search needs
-
 add-result-3 : tie.Need-add-result-3
 add-result-3 c = omega (arith, c .pre 0, c .pre 1, c .pre 2, c .pre 3)
-
-array-read-result-5 : tie.Need-array-read-result-5
-array-read-result-5 c = search needs
 
 add-result-4 : tie.Need-add-result-4
 add-result-4 c = omega (arith, c .pre 0, c .pre 1, c .pre 2, c .pre 3, c .pre 4)
 
-array-read-result-6 : tie.Need-array-read-result-6
-array-read-result-6 c = search needs
-
 add-result-5 : tie.Need-add-result-5
 add-result-5 c = omega (arith, c .pre 0, c .pre 1, c .pre 2, c .pre 3, c .pre 4, c .pre 5)
-
-array-read-result-7 : tie.Need-array-read-result-7
-array-read-result-7 c = search needs
 
 add-result-6 : tie.Need-add-result-6
 add-result-6 c = omega (arith, c .pre 0, c .pre 1, c .pre 2, c .pre 3, c .pre 4, c .pre 5, c .pre 6)
@@ -57,17 +36,17 @@ pub sum-of-spec : {M : Type 1} → statement M
 sum-of-spec =
     tie.close
     (tie.spec
-    array-read-result
-    array-read-result-2
+    (λ c. search needs)
+    (λ c. search needs)
     add-result
-    array-read-result-3
+    (λ c. search needs)
     add-result-2
-    array-read-result-4
+    (λ c. search needs)
     add-result-3
-    array-read-result-5
+    (λ c. search needs)
     add-result-4
-    array-read-result-6
+    (λ c. search needs)
     add-result-5
-    array-read-result-7
+    (λ c. search needs)
     add-result-6
     returns)

@@ -6,16 +6,10 @@ use Rattle.laws.proofs.FieldLaws.{alone, onto}
 use Rattle.words_packing.proofs.q_word.Statement.{statement}
 use Rattle.words_packing.proofs.q_word.Tie as tie
 
-put-at-requires : tie.Need-put-at-requires
-put-at-requires c κs = search needs
-
-put-at-requires-2 : tie.Need-put-at-requires-2
-put-at-requires-2 c κs = search needs
-
 returns : tie.Need-returns
 returns c =
     let a = c .before .before .args in
     onto (a .qd) 9 0 (lit≤ tt) (alone (a .qn) 19 10 (c .before .put-at .ensures)) (c .put-at2 .ensures) .is
 
 pub q-word-spec : {M : Type 1} → statement M
-q-word-spec = tie.close (tie.spec put-at-requires put-at-requires-2 returns)
+q-word-spec = tie.close (tie.spec (λ c κs. search needs) (λ c κs. search needs) returns)

@@ -10,18 +10,6 @@ use Rattle.laws.specs.Field.{put}
 use Rattle.words_packing.proofs.start_word.Statement.{statement}
 use Rattle.words_packing.proofs.start_word.Tie as tie
 
-put-at-requires : tie.Need-put-at-requires
-put-at-requires c κs = search needs
-
-bit-requires : tie.Need-bit-requires
-bit-requires c κs = search needs
-
-put-at-requires-2 : tie.Need-put-at-requires-2
-put-at-requires-2 c κs = search needs
-
-put-at-requires-3 : tie.Need-put-at-requires-3
-put-at-requires-3 c κs = search needs
-
 returns : tie.Need-returns
 returns c =
     let a = c .before .before .before .before .args in
@@ -31,4 +19,4 @@ returns c =
 
 pub start-word-spec : {M : Type 1} → statement M
 start-word-spec =
-    tie.close (tie.spec put-at-requires bit-requires put-at-requires-2 put-at-requires-3 returns)
+    tie.close (tie.spec (λ c κs. search needs) (λ c κs. search needs) (λ c κs. search needs) (λ c κs. search needs) returns)

@@ -13,17 +13,8 @@ use Rattle.words_reading.proofs.head_fault.Tie as tie
 returns : tie.Need-returns
 returns c = sym (is-true _ (λ f. let w = head-words _ f in omega arith))
 
-word-at-requires : tie.Need-word-at-requires
-word-at-requires c κs = search needs
-
 returns-2 : tie.Need-returns-2
 returns-2 c = sym (is-true _ (λ f. let w = head-words _ f in omega (arith, c .before .word-at .ensures)))
-
-head-at-requires : tie.Need-head-at-requires
-head-at-requires c κs = search needs
-
-head-good-requires : tie.Need-head-good-requires
-head-good-requires c κs = search needs
 
 returns-3 : tie.Need-returns-3
 returns-3 c =
@@ -35,4 +26,4 @@ returns-3 c =
 pub head-fault-spec : {M : Type 1} → statement M
 head-fault-spec =
     tie.close
-    (tie.spec returns word-at-requires returns-2 head-at-requires head-good-requires returns-3)
+    (tie.spec returns (λ c κs. search needs) returns-2 (λ c κs. search needs) (λ c κs. search needs) returns-3)

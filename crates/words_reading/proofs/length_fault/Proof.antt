@@ -7,28 +7,16 @@ use native.Mathlib.Omega.{arith}
 use borrow.Author.Needs.{needs}
 use lib.Dec.{eqb}
 use lib.ListN.{length}
-use Rattle.words_rules.specs.Words.{buckets}
+use Rattle.words_rules.specs.Words.{buckets, headWords, bucketWords}
 use Rattle.words_rules.specs.Reading.{lengthFault}
 use Rattle.words_reading.proofs.length_fault.Statement.{statement}
 use Rattle.words_reading.proofs.length_fault.Tie as tie
-
-bucket-count-requires : tie.Need-bucket-count-requires
-bucket-count-requires c κs = search needs
-
-cast-result : tie.Need-cast-result
-cast-result c = search needs
-
-mul-result : tie.Need-mul-result
-mul-result c = search needs
-
-add-result : tie.Need-add-result
-add-result c = search needs
 
 returns : tie.Need-returns
 unfolding lengthFault
 returns c =
     let ws = c .before .before .args .words .now in
-    ap (λ (n : ℕ). not (eqb (length ws) n)) {y = 4 + 5 * buckets ws} (omega (arith, c .bucket-count .ensures))
+    ap (λ (n : ℕ). not (eqb (length ws) n)) {y = headWords + bucketWords * buckets ws} (omega (arith, c .bucket-count .ensures))
 
 pub length-fault-spec : {M : Type 1} → statement M
-length-fault-spec = tie.close (tie.spec bucket-count-requires cast-result mul-result add-result returns)
+length-fault-spec = tie.close (tie.spec (λ c κs. search needs) (λ c. search needs) (λ c. search needs) (λ c. search needs) returns)

@@ -28,31 +28,19 @@ no-11 c = sym (c .before .width-fault .ensures) ∙ c .if5 .left
 no-12 : (c : tie.Else6) → codeFault (c .before .before .before .before .before .before .before .before .before .before .before .before .before .args .words .now) ≡ false
 no-12 c = sym (c .before .code-fault .ensures) ∙ c .if6 .left
 
-head-fault-requires : tie.Need-head-fault-requires
-head-fault-requires c κs = search needs
-
 returns : tie.Need-returns
 returns c = sym (fault-7 _ (sym (c .before .head-fault .ensures) ∙ c .if1 .taken))
-
-length-fault-requires : tie.Need-length-fault-requires
-length-fault-requires c κs = search needs
 
 returns-2 : tie.Need-returns-2
 returns-2 c =
     let c₁ = c .before .before in
     sym (fault-8 _ (no-7 c₁) (sym (c .before .length-fault .ensures) ∙ c .if2 .taken))
 
-word-fault-requires : tie.Need-word-fault-requires
-word-fault-requires c κs = search needs
-
 returns-3 : tie.Need-returns-3
 returns-3 c =
     let c₂ = c .before .before in
     let c₁ = c₂ .before .before in
     sym (fault-9 _ (no-7 c₁) (no-8 c₂) (sym (c .before .word-fault .ensures) ∙ c .if3 .taken))
-
-start-fault-requires : tie.Need-start-fault-requires
-start-fault-requires c κs = search needs
 
 returns-4 : tie.Need-returns-4
 returns-4 c =
@@ -61,9 +49,6 @@ returns-4 c =
     let c₁ = c₂ .before .before in
     sym (fault-10 _ (no-7 c₁) (no-8 c₂) (no-9 c₃) (sym (c .before .start-fault .ensures) ∙ c .if4 .taken))
 
-width-fault-requires : tie.Need-width-fault-requires
-width-fault-requires c κs = search needs
-
 returns-5 : tie.Need-returns-5
 returns-5 c =
     let c₄ = c .before .before in
@@ -71,9 +56,6 @@ returns-5 c =
     let c₂ = c₃ .before .before in
     let c₁ = c₂ .before .before in
     sym (fault-11 _ (no-7 c₁) (no-8 c₂) (no-9 c₃) (no-10 c₄) (sym (c .before .width-fault .ensures) ∙ c .if5 .taken))
-
-code-fault-requires : tie.Need-code-fault-requires
-code-fault-requires c κs = search needs
 
 returns-6 : tie.Need-returns-6
 returns-6 c =
@@ -97,16 +79,16 @@ pub read-fault-spec : {M : Type 1} → statement M
 read-fault-spec =
     tie.close
     (tie.spec
-    head-fault-requires
+    (λ c κs. search needs)
     returns
-    length-fault-requires
+    (λ c κs. search needs)
     returns-2
-    word-fault-requires
+    (λ c κs. search needs)
     returns-3
-    start-fault-requires
+    (λ c κs. search needs)
     returns-4
-    width-fault-requires
+    (λ c κs. search needs)
     returns-5
-    code-fault-requires
+    (λ c κs. search needs)
     returns-6
     returns-7)

@@ -46,26 +46,14 @@ Inv-loop words entries buckets before₀ b₀ before b = Passed words buckets be
 abbrev μ-loop : tie.MeasureT-loop
 μ-loop words entries buckets before₀ b₀ before b = buckets - b
 
-entry-count-requires : tie.Need-entry-count-requires Inv-loop μ-loop
-entry-count-requires c κs = search needs
-
-bucket-count-requires : tie.Need-bucket-count-requires Inv-loop μ-loop
-bucket-count-requires c κs = search needs
-
 cast-buckets : tie.Need-cast-buckets Inv-loop μ-loop
 cast-buckets c = search needs
-
-start-at-requires : tie.Need-start-at-requires Inv-loop μ-loop
-start-at-requires c κs = search needs
 
 returns : tie.Need-returns Inv-loop μ-loop
 returns c = sym (is-true _ (λ f. let s = starts _ f in omega (arith, c .before .start-at .ensures)))
 
 loop-holds : tie.Need-loop-holds Inv-loop μ-loop
 loop-holds c = record { within = omega arith; last = λ h. absurd (omega arith); below = λ i h. absurd (omega arith); rise = λ i h. absurd (omega arith) }
-
-start-at-requires-2 : tie.Need-start-at-requires-2 Inv-loop μ-loop
-start-at-requires-2 c κs = search needs
 
 returns-2 : tie.Need-returns-2 Inv-loop μ-loop
 returns-2 c =
@@ -116,13 +104,13 @@ start-fault-spec =
     (tie.spec
     Inv-loop
     μ-loop
-    entry-count-requires
-    bucket-count-requires
+    (λ c κs. search needs)
+    (λ c κs. search needs)
     cast-buckets
-    start-at-requires
+    (λ c κs. search needs)
     returns
     loop-holds
-    start-at-requires-2
+    (λ c κs. search needs)
     returns-2
     returns-3
     add-b

@@ -26,9 +26,6 @@ loop-holds c = let a = c .before .args in laid-none (a .q) (a .freqs .now) (a .e
 array-read-width-limit : tie.Need-array-read-width-limit Inv-loop μ-loop
 array-read-width-limit c = search needs
 
-width-limit-requires : tie.Need-width-limit-requires Inv-loop μ-loop
-width-limit-requires c κs = search needs
-
 width-within-requires : tie.Need-width-within-requires Inv-loop μ-loop
 width-within-requires c κs =
     let s = c .before .before .before .before in
@@ -104,9 +101,6 @@ add-at c = omega (arith, inside (c .before .before))
 add-k : tie.Need-add-k Inv-loop μ-loop
 add-k c = search needs
 
-loop-less : tie.Need-loop-less Inv-loop μ-loop
-loop-less c = search needs
-
 loop-again : tie.Need-loop-again Inv-loop μ-loop
 loop-again c =
     let a = c .before .before .before .before .before .before .before .args in
@@ -119,9 +113,6 @@ array-read-first c = search needs
 
 cast-t25 : tie.Need-cast-t25 Inv-loop μ-loop
 cast-t25 c = let p = c .before .before .before .pre .0 in omega (arith, p .before, p .inside, p .sound .many)
-
-is-eighth-free-requires : tie.Need-is-eighth-free-requires Inv-loop μ-loop
-is-eighth-free-requires c κs = search needs
 
 -- all eight are there
 all : (c : tie.After-loop Inv-loop μ-loop) → let a = c .before .before .before .args in
@@ -159,7 +150,7 @@ bucket-from-spec =
     μ-loop
     loop-holds
     array-read-width-limit
-    width-limit-requires
+    (λ c κs. search needs)
     width-within-requires
     count-of-requires
     cast-widths
@@ -171,10 +162,10 @@ bucket-from-spec =
     add-total
     add-at
     add-k
-    loop-less
+    (λ c. search needs)
     loop-again
     array-read-first
     cast-t25
-    is-eighth-free-requires
+    (λ c κs. search needs)
     code-for-requires
     returns)

@@ -1,6 +1,6 @@
 -- `builder::bucket::class_for` meets its contract. An empty bucketlet has class 0, and the count of any other has one.
 -- Assumes nothing.
-use mathlib.Core.Path.{_≡_, sym, ap, _∙_}
+use mathlib.Core.Path.{_∙_}
 use native.Mathlib.Omega.{arith}
 use borrow.Author.Needs.{needs}
 use borrow.Author.Tests.{eq-eqb, ne-eqb}
@@ -8,40 +8,25 @@ use lib.Dec.{eqb}
 use Rattle.laws.proofs.Tests.{chosen, not-chosen}
 use Rattle.counts_rules.specs.Form.{base}
 use Rattle.counts_rules.specs.Class.{classOf}
-use Rattle.counts.specs.declared.Coded.{Coded}
-use Rattle.counts.specs.Reply.{codedReply}
-use Rattle.counts.proofs.CallLaws.{class-coded}
+use Rattle.counts.proofs.CallLaws.{Holds-code, class-code}
 use Rattle.builder.proofs.bucket.class_for.Statement.{statement}
 use Rattle.builder.proofs.bucket.class_for.Tie as tie
 
 returns : tie.Need-returns
 returns c = let a = c .before .args in chosen (eqb (a .w) 0) 0 (classOf base (a .count)) (eq-eqb (a .w) 0 (omega arith))
 
-class-of-requires : tie.Need-class-of-requires
-class-of-requires c κs = search needs
-
-enum-known-class : tie.Need-enum-known-class
-enum-known-class c = search needs
-
-enum-told : tie.Need-enum-told
-enum-told c = search needs
-
--- the reply of the call
-reply : (c : tie.After-class-of) → let r = codedReply (c .class-of .result) in (r .refusal ≡ 0) × (r .value ≡ classOf base (c .before .before .args .count))
-reply c =
-    let s = c .before .before in
-    let p = s .pre (omega arith) in
-    class-coded (s .args .count) _ (p .0) (p .1) (c .class-of .ensures .0)
+-- the answer of the call
+answer : (c : tie.After-class-of) → Holds-code (c .class-of .result) (classOf base (c .before .before .args .count))
+answer c = let p = c .before .before .pre (omega arith) in class-code _ _ (p .0) (p .1) (c .class-of .ensures .0)
 
 returns-2 : tie.Need-returns-2
-returns-2 c = absurd (omega (arith, ap (λ (m : Coded). codedReply m .refusal) (sym (c .enum-told .given .1)) ∙ reply (c .before .before) .0))
+returns-2 c = absurd (answer (c .before .before) .not-refused (c .enum-told .given .1))
 
 returns-3 : tie.Need-returns-3
 returns-3 c =
     let a = c .before .before .before .before .before .args in
-    ap (λ (m : Coded). codedReply m .value) (sym (c .before .class .given .1))
-    ∙ reply (c .before .before .before) .1
+    answer (c .before .before .before) .held _ (c .before .class .given .1)
     ∙ not-chosen (eqb (a .w) 0) 0 (classOf base (a .count)) (ne-eqb (a .w) 0 (λ e. omega arith))
 
 pub class-for-spec : {M : Type 1} → statement M
-class-for-spec = tie.close (tie.spec returns class-of-requires enum-known-class enum-told returns-2 returns-3)
+class-for-spec = tie.close (tie.spec returns (λ c κs. search needs) (λ c. search needs) (λ c. search needs) returns-2 returns-3)

@@ -10,18 +10,19 @@ use lib.ListN.{getD, List·getD-eq-default}
 use Rattle.laws.proofs.Tests.{both, not-fails, holds-other, by-lt}
 use Rattle.laws.proofs.Table.{at}
 use Rattle.build_rules.specs.Bucket.{limitsOf}
+use Rattle.words_rules.specs.Limits.{maxListed, maxWidth}
 use Rattle.builder.proofs.bucket.width_limit.Statement.{statement}
 use Rattle.builder.proofs.bucket.width_limit.Tie as tie
 
 -- the limits between the first and the last
-middle : (first k : ℕ) → 1 ≤ k → k < 7 → 511 ≡ getD (limitsOf first) k 0
+middle : (first k : ℕ) → 1 ≤ k → k < 7 → maxListed ≡ getD (limitsOf first) k 0
 middle first k h l =
     let t : (leb 1 k && ltb k 7) ≡ true = both (leb 1 k) _ (le-leb 1 k h) (lt-ltb k 7 l) in
-    sym (eqb-true _ 511 (holds-other (not (leb 1 k && ltb k 7)) _ (at (λ k x. not (leb 1 k && ltb k 7) || eqb x 511) (limitsOf first) refl k (omega arith)) (not-fails _ t)))
+    sym (eqb-true _ maxListed (holds-other (not (leb 1 k && ltb k 7)) _ (at (λ k x. not (leb 1 k && ltb k 7) || eqb x maxListed) (limitsOf first) refl k (omega arith)) (not-fails _ t)))
 
 -- the last limit, by the first width
-last : (first k v : ℕ) → k ≡ 7 → (511 < first → v ≡ 511) → (first ≤ 511 → v ≡ 4095) → v ≡ getD (limitsOf first) k 0
-last first k v e f g = by-lt 511 first v 511 4095 f g ∙ sym (ap (λ (k : ℕ). getD (limitsOf first) k 0) e)
+last : (first k v : ℕ) → k ≡ 7 → (maxListed < first → v ≡ maxListed) → (first ≤ maxListed → v ≡ maxWidth) → v ≡ getD (limitsOf first) k 0
+last first k v e f g = by-lt maxListed first v maxListed maxWidth f g ∙ sym (ap (λ (k : ℕ). getD (limitsOf first) k 0) e)
 
 returns : tie.Need-returns
 returns c = ap (λ (k : ℕ). getD (limitsOf (c .before .args .first)) k 0) {x = 0} {y = c .before .args .k} (omega arith)

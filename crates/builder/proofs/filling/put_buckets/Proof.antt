@@ -1,7 +1,7 @@
 -- `builder::filling::put_buckets` meets its contract. At the loop b buckets are written, and what is left of the definition starts at the next entry.
 -- Assumes nothing.
 use mathlib.Core.Path.{_≡_, refl, ap, _∙_}
-use mathlib.Core.List.{List, _++_}
+use mathlib.Core.List.{_++_}
 use Prim.Native.Nat.{ℕ, _+_, _-_, _*_}
 use native.Mathlib.Numerals.{add-one}
 use native.Mathlib.Omega.{arith}
@@ -32,9 +32,6 @@ bucket-from-requires : tie.Need-bucket-from-requires Inv-loop μ-loop
 bucket-from-requires c κs =
     let s = c .before .before .before .before in
     (record { sound = s .pre .0; inside = omega arith; before = c .before .loop .inv .1 .within }, omega arith)
-
-encode-requires : tie.Need-encode-requires Inv-loop μ-loop
-encode-requires c κs = search needs
 
 slice-aggregate-put-all : tie.Need-slice-aggregate-put-all Inv-loop μ-loop
 slice-aggregate-put-all c = search needs
@@ -117,7 +114,7 @@ put-buckets-spec =
     μ-loop
     loop-holds
     bucket-from-requires
-    encode-requires
+    (λ c κs. search needs)
     slice-aggregate-put-all
     mul-put-all
     add-put-all

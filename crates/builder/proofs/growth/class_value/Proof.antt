@@ -1,78 +1,51 @@
 -- `builder::growth::class_value` meets its contract. The count has a class, the class is in use, and each call answers.
 -- Assumes nothing.
-use mathlib.Core.Path.{_≡_, sym, ap, _∙_}
+use mathlib.Core.Path.{_≡_, ap, subst, _∙_}
+use Prim.Native.Nat.{ℕ}
 use native.Mathlib.Omega.{arith}
 use borrow.Author.Needs.{needs}
 use Rattle.counts_rules.specs.Form.{base, usedClass}
-use Rattle.counts_rules.specs.Class.{classNumber, classValue}
+use Rattle.counts_rules.specs.Class.{classOf, classNumber, classValue}
 use Rattle.counts_rules.proofs.BaseLaws.{class-used}
-use Rattle.counts.specs.declared.Meaning.{Meaning}
-use Rattle.counts.specs.Reply.{codedReply, meaningReply}
-use Rattle.counts.proofs.CallLaws.{class-coded, class-read}
+use Rattle.counts.proofs.CallLaws.{Holds-code, Holds-number, class-code, class-number}
 use Rattle.builder.proofs.growth.class_value.Statement.{statement}
 use Rattle.builder.proofs.growth.class_value.Tie as tie
 
 cast-class-of : tie.Need-cast-class-of
 cast-class-of c = search needs
 
-class-of-requires : tie.Need-class-of-requires
-class-of-requires c κs = search needs
+-- the answers of the two calls
+coded : (c : tie.After-class-of) → Holds-code (c .class-of .result) (classOf base (c .before .args .count))
+coded c = class-code _ _ (omega arith) (omega arith) (c .class-of .ensures .0)
 
-enum-known-class : tie.Need-enum-known-class
-enum-known-class c = search needs
-
-enum-told : tie.Need-enum-told
-enum-told c = search needs
+meant : (c : tie.After-number-of-class) → Holds-number (c .number-of-class .result) (classValue (c .before .before .before .before .before .args .count))
+meant c =
+    let v = c .before .before .before .before .before .args .count in
+    let told = c .before .before .class .given in
+    let class : told .0 .0 ≡ classOf base v = coded (c .before .before .before .before) .held _ (told .1) in
+    subst (λ (k : ℕ). Holds-number (c .number-of-class .result) (classNumber base k)) class (class-number _ _ (ap usedClass class ∙ class-used v (omega arith) (omega arith)) (c .number-of-class .ensures .0))
 
 returns : tie.Need-returns
-returns c =
-    let v = c .before .before .before .args .count in
-    absurd (omega (arith, class-coded v _ (omega arith) (omega arith) (ap codedReply (sym (c .enum-told .given .1)) ∙ c .before .before .class-of .ensures .0) .0))
-
--- the reply of the second call
-number-reply : (c : tie.After-number-of-class)
-    → let r = meaningReply (c .number-of-class .result) in
-    (r .refusal ≡ 0) × (r .value ≡ classValue (c .before .before .before .before .before .args .count))
-number-reply c =
-    let told = c .before .before .class .given in
-    let v = c .before .before .before .before .before .args .count in
-    let d = class-coded v _ (omega arith) (omega arith) (ap codedReply (sym (told .1)) ∙ c .before .before .before .before .class-of .ensures .0) .1 in
-    let r = class-read (told .0 .0) _ (ap usedClass d ∙ class-used v (omega arith) (omega arith)) (c .number-of-class .ensures .0) in
-    (r .0, r .1 ∙ ap (classNumber base) d)
-
-number-of-class-requires : tie.Need-number-of-class-requires
-number-of-class-requires c κs = search needs
-
-enum-known-number : tie.Need-enum-known-number
-enum-known-number c = search needs
-
-enum-told-2 : tie.Need-enum-told-2
-enum-told-2 c = search needs
+returns c = absurd (coded (c .before .before) .not-refused (c .enum-told .given .1))
 
 returns-2 : tie.Need-returns-2
-returns-2 c = absurd (omega (arith, ap (λ (m : Meaning). meaningReply m .refusal) (sym (c .enum-told2 .given .1)) ∙ number-reply (c .before .before) .0))
-
-wide-requires : tie.Need-wide-requires
-wide-requires c κs = search needs
+returns-2 c = absurd (meant (c .before .before) .not-refused (c .enum-told2 .given .1))
 
 returns-3 : tie.Need-returns-3
-returns-3 c =
-    c .wide .ensures
-    ∙ ap (λ (m : Meaning). meaningReply m .value) (sym (c .before .before .number .given .1))
-    ∙ number-reply (c .before .before .before .before) .1
+returns-3 c = c .wide .ensures ∙ meant (c .before .before .before .before) .held _ (c .before .before .number .given .1)
 
 pub class-value-spec : {M : Type 1} → statement M
 class-value-spec =
     tie.close
     (tie.spec
     cast-class-of
-    class-of-requires
-    enum-known-class
-    enum-told
+    (λ c κs. search needs)
+    (λ c. search needs)
+    (λ c. search needs)
     returns
-    number-of-class-requires
-    enum-known-number
-    enum-told-2
+    (λ c κs. search needs)
+    (λ c. search needs)
+    (λ c. search needs)
     returns-2
-    wide-requires
+    (λ c κs. search needs)
     returns-3)

@@ -54,9 +54,6 @@ mul-wide c = omega (arith, c .before .before .before .pre .inside, c .before .be
 shared-slice-read-wide : tie.Need-shared-slice-read-wide Inv-loop μ-loop
 shared-slice-read-wide c = omega (arith, c .before .before .before .before .pre .inside)
 
-wide-requires : tie.Need-wide-requires Inv-loop μ-loop
-wide-requires c κs = search needs
-
 -- the total of one entry more
 total : (c : tie.After-wide Inv-loop μ-loop) → let s = c .before .before .before .before .before in
     let l = c .before .before .before .loop in
@@ -159,7 +156,7 @@ grow-spec =
     add-wide
     mul-wide
     shared-slice-read-wide
-    wide-requires
+    (λ c κs. search needs)
     add-total
     widened-requires
     add-next

@@ -18,6 +18,7 @@ use Rattle.counts_rules.specs.Limit.{limit}
 use Rattle.list_rules.specs.Limits.{maxQ}
 use Rattle.list_rules.specs.declared.Quality.{Quality}
 use Rattle.build_rules.proofs.WidthLaws.{count-small}
+use Rattle.words_rules.specs.Limits.{maxWidth}
 use Rattle.build_bounds.specs.declared.Ratio.{Ratio}
 use Rattle.build_bounds.specs.Private.Growing.{rangeCount, Bounding}
 use Rattle.build_bounds.proofs.BoundLaws.{HeavyFrom, bounds, heavy-none, heavy-step, heavy-le, bounding-row, bounding-step, bounding-split}
@@ -81,9 +82,6 @@ mul-wide c = let p = c .before .before .before .before .before .before .pre .gro
 shared-slice-read-wide : tie.Need-shared-slice-read-wide Inv-loop μ-loop
 shared-slice-read-wide c = let p = c .before .before .before .before .before .before .before .pre .growable in omega (arith, c .before .before .loop .inv .start, p .inside)
 
-wide-requires : tie.Need-wide-requires Inv-loop μ-loop
-wide-requires c κs = search needs
-
 -- the count in hand
 counted : (c : tie.After-wide Inv-loop μ-loop) → let l = c .before .before .before .loop in
     let a = c .before .before .before .before .before .before .before .before .args in
@@ -113,9 +111,6 @@ splits-requires c κs =
     heavy-le (s .args .q) (s .args .freqs .now) (s .args .a) (s .pre .growable .sound) (suc (s .args .w)) (l .i - 1) (l .heavy) _ (counted c)
     (after (λ (i : ℕ). HeavyFrom (s .args .freqs .now) (s .args .a) (suc (s .args .w)) i (l .heavy)) (l .i) (omega arith) (l .inv .heavy-from))
 
-first-heavy-requires : tie.Need-first-heavy-requires Inv-loop μ-loop
-first-heavy-requires c κs = search needs
-
 sub-n : tie.Need-sub-n Inv-loop μ-loop
 sub-n c = omega (arith, c .before .before .before .before .before .before .loop .inv .start)
 
@@ -123,27 +118,21 @@ counted-of-requires : tie.Need-counted-of-requires Inv-loop μ-loop
 counted-of-requires c κs =
     let l = c .before .before .before .before .before .before .loop in
     let p = c .before .before .before .before .before .before .before .before .before .before .before .pre .growable in
-    let n : c .before .before .before .before .before .before .before .before .before .before .before .args .w + 1 - (l .i - 1) ≤ 4095 = omega (arith, p .narrow) in
+    let n : c .before .before .before .before .before .before .before .before .before .before .before .args .w + 1 - (l .i - 1) ≤ maxWidth = omega (arith, p .narrow) in
     (omega (arith, mul-le-mul (l .inv .bounding .low-top) n), omega (arith, mul-le-mul (small (c .before .before .before)) (l .inv .bounding .low-bottom)))
 
 mul-larger-of-wide : tie.Need-mul-larger-of-wide Inv-loop μ-loop
 mul-larger-of-wide c = omega (arith, mul-le-mul (c .before .before .before .before .before .before .before .before .before .before .before .before .before .pre .growable .sound .qn-small) (small (c .before .before .before .before .before)))
-
-larger-of-wide-requires : tie.Need-larger-of-wide-requires Inv-loop μ-loop
-larger-of-wide-requires c κs = search needs
 
 greater-of-requires : tie.Need-greater-of-requires Inv-loop μ-loop
 greater-of-requires c κs =
     let l = c .before .before .before .before .before .before .before .before .before .loop in
     let p = c .before .before .before .before .before .before .before .before .before .before .before .before .before .before .pre .growable in
     let s = p .sound in
-    let n : c .before .before .before .before .before .before .before .before .before .before .before .before .before .before .args .w + 1 - (l .i - 1) ≤ 4095 = omega (arith, p .narrow) in
+    let n : c .before .before .before .before .before .before .before .before .before .before .before .before .before .before .args .w + 1 - (l .i - 1) ≤ maxWidth = omega (arith, p .narrow) in
     let cap : c .larger-of-wide .result ≤ maxQ * limit =
     omega (arith, c .larger-of-wide .ensures, mul-le-mul (s .qn-small) (small (c .before .before .before .before .before .before)), mul-le-mul (s .qd-small) (s .theta-small)) in
     (omega (arith, mul-le-mul (l .inv .bounding .up-top) cap), omega (arith, mul-le-mul n (l .inv .bounding .up-bottom)))
-
-loop-less : tie.Need-loop-less Inv-loop μ-loop
-loop-less c = search needs
 
 loop-again : tie.Need-loop-again Inv-loop μ-loop
 loop-again c =
@@ -202,16 +191,16 @@ widened-spec =
     add-wide
     mul-wide
     shared-slice-read-wide
-    wide-requires
+    (λ c κs. search needs)
     add-count
     splits-requires
-    first-heavy-requires
+    (λ c κs. search needs)
     sub-n
     counted-of-requires
     mul-larger-of-wide
-    larger-of-wide-requires
+    (λ c κs. search needs)
     greater-of-requires
-    loop-less
+    (λ c. search needs)
     loop-again
     returns
     returns-2)

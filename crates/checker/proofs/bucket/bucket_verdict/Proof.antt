@@ -16,9 +16,6 @@ Inv-loop freqs words q b bucket start at₀ k₀ at k = Passed q freqs bucket at
 abbrev μ-loop : tie.MeasureT-loop
 μ-loop freqs words q b bucket start at₀ k₀ at k = 8 - k
 
-bucket-at-requires : tie.Need-bucket-at-requires Inv-loop μ-loop
-bucket-at-requires c κs = search needs
-
 cast-start : tie.Need-cast-start Inv-loop μ-loop
 cast-start c = search needs
 
@@ -54,9 +51,6 @@ answered c =
     let l = c .before .before .before .before .loop in
     answer-is (a .q) (a .freqs .now) (c .before .before .before .before .before .bucket-at .result) (l .at) (l .k) _ (l .inv) (c .bucketlet-verdict .ensures)
 
-enum-told : tie.Need-enum-told Inv-loop μ-loop
-enum-told c = search needs
-
 returns : tie.Need-returns Inv-loop μ-loop
 returns c =
     let s = c .before .before .before .before .before .before .before .before .before in
@@ -73,9 +67,6 @@ add-at c =
 
 add-k : tie.Need-add-k Inv-loop μ-loop
 add-k c = search needs
-
-loop-less : tie.Need-loop-less Inv-loop μ-loop
-loop-less c = search needs
 
 loop-again : tie.Need-loop-again Inv-loop μ-loop
 loop-again c =
@@ -107,7 +98,7 @@ bucket-verdict-spec =
     (tie.spec
     Inv-loop
     μ-loop
-    bucket-at-requires
+    (λ c κs. search needs)
     cast-start
     loop-holds
     mul-w
@@ -116,11 +107,11 @@ bucket-verdict-spec =
     mul-bucketlet-verdict
     element-copy-out-bucketlet-verdict
     bucketlet-verdict-requires
-    enum-told
+    (λ c. search needs)
     returns
     add-at
     add-k
-    loop-less
+    (λ c. search needs)
     loop-again
     total-verdict-requires
     returns-2)

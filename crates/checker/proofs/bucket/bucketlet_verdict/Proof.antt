@@ -6,9 +6,7 @@ use borrow.Author.Needs.{needs}
 use Rattle.counts_rules.specs.Form.{base}
 use Rattle.counts_rules.specs.Class.{classNumber}
 use Rattle.counts_rules.proofs.BaseLaws.{close}
-use Rattle.counts.specs.declared.Meaning.{Meaning}
-use Rattle.counts.specs.Reply.{meaningReply}
-use Rattle.counts.proofs.CallLaws.{class-read}
+use Rattle.counts.proofs.CallLaws.{Holds-number, class-number}
 use Rattle.check_rules.specs.Failing.{bucketletVerdict}
 use Rattle.check_rules.proofs.RangeLaws.{empty-verdict}
 use Rattle.checker.proofs.bucket.bucketlet_verdict.Statement.{statement}
@@ -19,27 +17,16 @@ returns c =
     let a = c .before .before .args in
     sym (empty-verdict (a .q) (a .freqs .now) (a .a) (a .w) (classNumber base (a .class)) (omega arith))
 
-number-of-class-requires : tie.Need-number-of-class-requires
-number-of-class-requires c κs = search needs
-
-enum-known-number : tie.Need-enum-known-number
-enum-known-number c = search needs
-
-enum-told : tie.Need-enum-told
-enum-told c = search needs
-
--- the reply of the call
-reply : (c : tie.After-number-of-class)
-    → let r = meaningReply (c .number-of-class .result) in
-    (r .refusal ≡ 0) × (r .value ≡ classNumber base (c .before .before .before .args .class))
-reply c = let s = c .before .before .before in class-read (s .args .class) _ (s .pre .used (omega arith)) (c .number-of-class .ensures .0)
+-- the answer of the call
+answer : (c : tie.After-number-of-class) → Holds-number (c .number-of-class .result) (classNumber base (c .before .before .before .args .class))
+answer c = class-number _ _ (c .before .before .before .pre .used (omega arith)) (c .number-of-class .ensures .0)
 
 returns-2 : tie.Need-returns-2
-returns-2 c = absurd (omega (arith, ap (λ (m : Meaning). meaningReply m .refusal) (sym (c .enum-told .given .1)) ∙ reply (c .before .before) .0))
+returns-2 c = absurd (answer (c .before .before) .not-refused (c .enum-told .given .1))
 
 -- the number in hand
 number : (c : tie.After-known-told) → c .before .number .given .0 .0 ≡ classNumber base (c .before .before .before .before .before .before .args .class)
-number c = ap (λ (m : Meaning). meaningReply m .value) (sym (c .before .number .given .1)) ∙ reply (c .before .before .before) .1
+number c = answer (c .before .before .before) .held _ (c .before .number .given .1)
 
 cast-first-failing : tie.Need-cast-first-failing
 cast-first-failing c = search needs
@@ -64,9 +51,9 @@ bucketlet-verdict-spec =
     tie.close
     (tie.spec
     returns
-    number-of-class-requires
-    enum-known-number
-    enum-told
+    (λ c κs. search needs)
+    (λ c. search needs)
+    (λ c. search needs)
     returns-2
     cast-first-failing
     first-failing-requires

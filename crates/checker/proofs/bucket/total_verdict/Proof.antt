@@ -1,6 +1,6 @@
 -- `checker::bucket::total_verdict` meets its contract. The code is valid, so its number is read, and the test is the definition's.
 -- Assumes nothing.
-use mathlib.Core.Path.{_≡_, sym, ap, _∙_}
+use mathlib.Core.Path.{_≡_, sym, _∙_}
 use Prim.Native.Nat.{_-_}
 use native.Mathlib.Omega.{arith}
 use borrow.Author.Needs.{needs}
@@ -8,9 +8,7 @@ use Rattle.laws.specs.Sums.{partSum}
 use Rattle.laws.proofs.SumsLaws.{part-le}
 use Rattle.counts_rules.specs.Total.{totalNumber}
 use Rattle.counts_rules.proofs.TotalLaws.{number-small}
-use Rattle.counts.specs.declared.Meaning.{Meaning}
-use Rattle.counts.specs.Reply.{meaningReply}
-use Rattle.counts.proofs.CallLaws.{total-read}
+use Rattle.counts.proofs.CallLaws.{Holds-number, total-number}
 use Rattle.fit.specs.Fit.{near}
 use Rattle.fit.specs.Accepted.{totalGood}
 use Rattle.check_rules.specs.Checking.{totalVerdict}
@@ -18,23 +16,12 @@ use Rattle.check_rules.proofs.RangeLaws.{good-accepted, bad-fails}
 use Rattle.checker.proofs.bucket.total_verdict.Statement.{statement}
 use Rattle.checker.proofs.bucket.total_verdict.Tie as tie
 
-number-of-total-requires : tie.Need-number-of-total-requires
-number-of-total-requires c κs = search needs
-
-enum-known-number : tie.Need-enum-known-number
-enum-known-number c = search needs
-
-enum-told : tie.Need-enum-told
-enum-told c = search needs
-
--- the reply of the call
-reply : (c : tie.After-number-of-total)
-    → let r = meaningReply (c .number-of-total .result) in
-    (r .refusal ≡ 0) × (r .value ≡ totalNumber (c .before .before .args .code))
-reply c = let s = c .before .before in total-read (s .args .code) _ (s .pre .valid) (c .number-of-total .ensures .0)
+-- the answer of the call
+answer : (c : tie.After-number-of-total) → Holds-number (c .number-of-total .result) (totalNumber (c .before .before .args .code))
+answer c = total-number _ _ (c .before .before .pre .valid) (c .number-of-total .ensures .0)
 
 returns : tie.Need-returns
-returns c = absurd (omega (arith, ap (λ (m : Meaning). meaningReply m .refusal) (sym (c .enum-told .given .1)) ∙ reply (c .before .before) .0))
+returns c = absurd (answer (c .before .before) .not-refused (c .enum-told .given .1))
 
 cast-total : tie.Need-cast-total
 cast-total c = search needs
@@ -47,7 +34,7 @@ count-of-requires c κs = search needs
 
 -- the number in hand
 number : (c : tie.After-known-told) → c .before .number .given .0 .0 ≡ totalNumber (c .before .before .before .before .before .args .code)
-number c = ap (λ (m : Meaning). meaningReply m .value) (sym (c .before .number .given .1)) ∙ reply (c .before .before .before) .1
+number c = answer (c .before .before .before) .held _ (c .before .number .given .1)
 
 is-near-requires : tie.Need-is-near-requires
 is-near-requires c κs =
@@ -83,9 +70,9 @@ pub total-verdict-spec : {M : Type 1} → statement M
 total-verdict-spec =
     tie.close
     (tie.spec
-    number-of-total-requires
-    enum-known-number
-    enum-told
+    (λ c κs. search needs)
+    (λ c. search needs)
+    (λ c. search needs)
     returns
     cast-total
     sub-count-of

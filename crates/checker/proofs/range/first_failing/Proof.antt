@@ -135,14 +135,8 @@ add-t24 c = let s = c .before .before .before .before .before .before .before .b
 cast-t25 : tie.Need-cast-t25 Inv-loop2 μ-loop2 Inv-loop μ-loop Inv-search μ-search
 cast-t25 c = let s = c .before .before .before .before .before .before .before .before .before in omega (arith, s .pre .inside, s .pre .sound .many)
 
-sort-of-requires : tie.Need-sort-of-requires Inv-loop2 μ-loop2 Inv-loop μ-loop Inv-search μ-search
-sort-of-requires c κs = search needs
-
 add-end-2 : tie.Need-add-end-2 Inv-loop2 μ-loop2 Inv-loop μ-loop Inv-search μ-search
 add-end-2 c = search needs
-
-loop2-less : tie.Need-loop2-less Inv-loop2 μ-loop2 Inv-loop μ-loop Inv-search μ-search
-loop2-less c = search needs
 
 loop2-again : tie.Need-loop2-again Inv-loop2 μ-loop2 Inv-loop μ-loop Inv-search μ-search
 loop2-again c =
@@ -154,9 +148,6 @@ loop2-again c =
 
 add-start : tie.Need-add-start Inv-loop2 μ-loop2 Inv-loop μ-loop Inv-search μ-search
 add-start c = search needs
-
-loop-less : tie.Need-loop-less Inv-loop2 μ-loop2 Inv-loop μ-loop Inv-search μ-search
-loop-less c = search needs
 
 loop-again : tie.Need-loop-again Inv-loop2 μ-loop2 Inv-loop μ-loop Inv-search μ-search
 loop-again c =
@@ -208,12 +199,12 @@ first-failing-spec =
     cast-t23
     add-t24
     cast-t25
-    sort-of-requires
+    (λ c κs. search needs)
     add-end-2
-    loop2-less
+    (λ c. search needs)
     loop2-again
     add-start
-    loop-less
+    (λ c. search needs)
     loop-again
     returns
     returns-2)

@@ -18,27 +18,12 @@ Inv-loop words x y b start end sum₀ bucket a₀ k₀ sum a k = Walked bucket x
 abbrev μ-loop : tie.MeasureT-loop
 μ-loop words x y b start end sum₀ bucket a₀ k₀ sum a k = 8 - k
 
-start-at-requires : tie.Need-start-at-requires Inv-loop μ-loop
-start-at-requires c κs = search needs
-
-end-at-requires : tie.Need-end-at-requires Inv-loop μ-loop
-end-at-requires c κs = search needs
-
-overlap-of-requires : tie.Need-overlap-of-requires Inv-loop μ-loop
-overlap-of-requires c κs = search needs
-
 returns : tie.Need-returns Inv-loop μ-loop
 returns c =
     let s = c .before .before .before .before .before in
     let from = c .before .before .before .start-at .ensures in
     let to = c .before .before .end-at .ensures in
     bucket-none (s .args .words .now) (s .pre .0) (s .args .x) (s .args .y) (s .args .b) (s .pre .1) (omega (arith, c .before .overlap-of .ensures, from, to))
-
-bucket-at-requires : tie.Need-bucket-at-requires Inv-loop μ-loop
-bucket-at-requires c κs = search needs
-
-is-inside-requires : tie.Need-is-inside-requires Inv-loop μ-loop
-is-inside-requires c κs = search needs
 
 -- what was tested is the bucket's span
 held : (c : tie.After-is-inside Inv-loop μ-loop) → let a = c .before .before .before .before .before .before .before .args in c .is-inside .result ≡ inside (a .x) (a .y) (start (a .words .now) (a .b)) (end (a .words .now) (a .b))
@@ -96,9 +81,6 @@ add-a c =
 add-k : tie.Need-add-k Inv-loop μ-loop
 add-k c = search needs
 
-loop-less : tie.Need-loop-less Inv-loop μ-loop
-loop-less c = search needs
-
 loop-again : tie.Need-loop-again Inv-loop μ-loop
 loop-again c =
     let a = c .before .before .before .before .before .before .before .before .before .before .before .before .before .args in
@@ -117,12 +99,12 @@ bucket-piece-spec =
     (tie.spec
     Inv-loop
     μ-loop
-    start-at-requires
-    end-at-requires
-    overlap-of-requires
+    (λ c κs. search needs)
+    (λ c κs. search needs)
+    (λ c κs. search needs)
     returns
-    bucket-at-requires
-    is-inside-requires
+    (λ c κs. search needs)
+    (λ c κs. search needs)
     total-number-requires
     returns-2
     loop-holds
@@ -133,6 +115,6 @@ bucket-piece-spec =
     with-piece-requires
     add-a
     add-k
-    loop-less
+    (λ c. search needs)
     loop-again
     returns-3)

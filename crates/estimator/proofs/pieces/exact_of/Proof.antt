@@ -15,9 +15,6 @@ Inv-loop words x y buckets sum₀ b₀ sum b = Passed words x y sum b
 abbrev μ-loop : tie.MeasureT-loop
 μ-loop words x y buckets sum₀ b₀ sum b = buckets - b
 
-bucket-count-requires : tie.Need-bucket-count-requires Inv-loop μ-loop
-bucket-count-requires c κs = search needs
-
 cast-buckets : tie.Need-cast-buckets Inv-loop μ-loop
 cast-buckets c = search needs
 
@@ -40,9 +37,6 @@ plus-requires c κs =
 add-b : tie.Need-add-b Inv-loop μ-loop
 add-b c = search needs
 
-loop-less : tie.Need-loop-less Inv-loop μ-loop
-loop-less c = search needs
-
 loop-again : tie.Need-loop-again Inv-loop μ-loop
 loop-again c =
     let s = c .before .before .before .before .before .before in
@@ -61,12 +55,12 @@ exact-of-spec =
     (tie.spec
     Inv-loop
     μ-loop
-    bucket-count-requires
+    (λ c κs. search needs)
     cast-buckets
     loop-holds
     bucket-piece-requires
     plus-requires
     add-b
-    loop-less
+    (λ c. search needs)
     loop-again
     returns)

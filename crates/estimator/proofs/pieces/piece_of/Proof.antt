@@ -12,9 +12,6 @@ use Rattle.estimator.proofs.pieces.piece_of.Tie as tie
 add-overlap-of : tie.Need-add-overlap-of
 add-overlap-of c = search needs
 
-overlap-of-requires : tie.Need-overlap-of-requires
-overlap-of-requires c κs = search needs
-
 returns : tie.Need-returns
 returns c =
     let a = c .before .before .args in
@@ -23,25 +20,16 @@ returns c =
 add-is-inside : tie.Need-add-is-inside
 add-is-inside c = search needs
 
-is-inside-requires : tie.Need-is-inside-requires
-is-inside-requires c κs = search needs
-
 returns-2 : tie.Need-returns-2
 returns-2 c =
     let a = c .before .before .before .before .args in
     sym (piece-whole (a .x) (a .y) (a .a) (a .w) (a .s) (omega (arith, c .before .before .before .overlap-of .ensures)) (sym (c .before .is-inside .ensures) ∙ c .if2 .taken))
-
-wide-requires : tie.Need-wide-requires
-wide-requires c κs = search needs
 
 mul-t11 : tie.Need-mul-t11
 mul-t11 c =
     let n : c .wide .result ≤ 2 ^ 32 = omega (arith, c .wide .ensures, c .before .before .before .before .overlap-of .ensures) in
     let s : c .before .before .before .before .before .args .s ≤ 2 ^ 31 = omega arith in
     omega (arith, mul-le-mul n s)
-
-wide-requires-2 : tie.Need-wide-requires-2
-wide-requires-2 c κs = search needs
 
 returns-3 : tie.Need-returns-3
 returns-3 c =
@@ -57,12 +45,12 @@ piece-of-spec =
     tie.close
     (tie.spec
     add-overlap-of
-    overlap-of-requires
+    (λ c κs. search needs)
     returns
     add-is-inside
-    is-inside-requires
+    (λ c κs. search needs)
     returns-2
-    wide-requires
+    (λ c κs. search needs)
     mul-t11
-    wide-requires-2
+    (λ c κs. search needs)
     returns-3)

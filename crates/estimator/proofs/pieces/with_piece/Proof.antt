@@ -16,9 +16,6 @@ use Rattle.estimator.proofs.pieces.with_piece.Tie as tie
 add-overlap-of : tie.Need-add-overlap-of
 add-overlap-of c = search needs
 
-overlap-of-requires : tie.Need-overlap-of-requires
-overlap-of-requires c κs = search needs
-
 returns : tie.Need-returns
 returns c =
     let a = c .before .before .args in
@@ -46,7 +43,7 @@ with-piece-spec =
     tie.close
     (tie.spec
     add-overlap-of
-    overlap-of-requires
+    (λ c κs. search needs)
     returns
     class-number-requires
     piece-of-requires

@@ -5,8 +5,7 @@ use mathlib.Core.Bool.{true}
 use native.Mathlib.Omega.{arith}
 use borrow.Author.Needs.{needs}
 use Rattle.counts_rules.specs.Total.{totalNumber, validCode}
-use Rattle.counts.specs.declared.Meaning.the-variants.{Number}
-use Rattle.counts.proofs.CallLaws.{total-known, not-refused, number-is}
+use Rattle.counts.proofs.CallLaws.{Holds-number, total-number}
 use Rattle.words_rules.specs.declared.Bucket.{Bucket}
 use Rattle.words_rules.proofs.Proved.{histogram}
 use Rattle.sheet_rules.specs.Private.Room.{Printable}
@@ -21,15 +20,15 @@ bucket-at-requires : tie.Need-bucket-at-requires
 bucket-at-requires c κs = search needs
 
 -- the total's code is valid, so that the call answers with its number
-known : (c : tie.After-number-of-total) → c .number-of-total .result ≡ Number (totalNumber (c .before .bucket-at .result .total))
+known : (c : tie.After-number-of-total) → Holds-number (c .number-of-total .result) (totalNumber (c .before .bucket-at .result .total))
 known c =
     let s = c .before .before .before in
     let b = c .before .bucket-at in
     let valid = histogram .holds (s .args .words .now) (s .pre .0 .readable) (s .args .b) (s .pre .1) .total-valid in
-    total-known (b .result .total) _ (subst⁻¹ (λ (x : Bucket). validCode (x .total) ≡ true) (b .ensures) valid) (c .number-of-total .ensures .1)
+    total-number (b .result .total) _ (subst⁻¹ (λ (x : Bucket). validCode (x .total) ≡ true) (b .ensures) valid) (c .number-of-total .ensures .0)
 
 returns : tie.Need-returns
-returns c = absurd (not-refused (known (c .before .before)) (c .enum-told .given .1))
+returns c = absurd (known (c .before .before) .not-refused (c .enum-told .given .1))
 
 start-at-requires : tie.Need-start-at-requires
 start-at-requires c κs = search needs
@@ -43,7 +42,7 @@ line : (c : tie.After-bucket-line) → let a = c .before .before .before .before
 line c =
     let a = c .before .before .before .before .before .before .before .before .before .args in
     let r = c .before .before .before .before .before .before .before .bucket-at in
-    let n = number-is (known (c .before .before .before .before .before .before)) (c .before .before .before .before .number .given .1) in
+    let n = known (c .before .before .before .before .before .before) .held _ (c .before .before .before .before .number .given .1) in
     c .bucket-line .ensures ∙ ap lineOf (bucket-line (a .words .now) (a .b) (r .result) (r .ensures) _ _ _ (c .before .before .start-at .ensures) (c .before .end-at .ensures) n)
 
 put-requires : tie.Need-put-requires

@@ -4,8 +4,7 @@ use mathlib.Core.Path.{_≡_, refl, ap, _∙_, subst⁻¹}
 use Prim.Native.Nat.{suc}
 use native.Mathlib.Omega.{arith}
 use borrow.Author.Needs.{needs}
-use Rattle.counts.specs.declared.Meaning.the-variants.{Number}
-use Rattle.counts.proofs.CallLaws.{class-known, not-refused, number-is}
+use Rattle.counts.proofs.CallLaws.{Holds-number, class-number}
 use Rattle.words_rules.specs.Decoded.{classAt, numberAt}
 use Rattle.words_rules.proofs.EntryLaws.{bucketlet-end}
 use Rattle.sheet_rules.specs.Sheet.{bucketletPart}
@@ -29,13 +28,13 @@ element-copy-out-class c = search needs
 
 -- the class is in use, so that the call answers with its number
 known : (c : tie.After-number-of-class) → let a = c .before .before .before .before .args in
-    c .number-of-class .result ≡ Number (numberAt (a .t1) (a .k))
+    Holds-number (c .number-of-class .result) (numberAt (a .t1) (a .k))
 known c =
     let s = c .before .before .before .before in
-    class-known (classAt (s .args .t1) (s .args .k)) _ (s .pre .0 .class-used (s .args .k) (s .pre .1) (omega arith)) (c .number-of-class .ensures .1)
+    class-number (classAt (s .args .t1) (s .args .k)) _ (s .pre .0 .class-used (s .args .k) (s .pre .1) (omega arith)) (c .number-of-class .ensures .0)
 
 returns-2 : tie.Need-returns-2
-returns-2 c = absurd (not-refused (known (c .before .before)) (c .enum-told .given .1))
+returns-2 c = absurd (known (c .before .before) .not-refused (c .enum-told .given .1))
 
 add-bucketlet-line : tie.Need-add-bucketlet-line
 add-bucketlet-line c =
@@ -47,7 +46,7 @@ line : (c : tie.After-bucketlet-line) → let a = c .before .before .before .bef
     c .bucketlet-line .result ≡ lineOf (bucketletPart (a .t1) (a .k))
 line c =
     let s = c .before .before .before .before .before .before .before .before in
-    let n = number-is (known (c .before .before .before .before)) (c .before .before .number .given .1) in
+    let n = known (c .before .before .before .before) .held _ (c .before .before .number .given .1) in
     c .bucketlet-line .ensures ∙ ap lineOf (part-line (s .args .t1) (s .args .k) (s .args .start) _ _ _ (omega arith) (s .pre .2) refl refl n)
 
 put-requires : tie.Need-put-requires
