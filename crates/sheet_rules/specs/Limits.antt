@@ -24,8 +24,8 @@ maxInput = (maxDigits + 1) * mostNumbers
 
 -- ---- its histogram: 512 buckets, 2,564 words
 
-abbrev pub maxBuckets : ℕ
-maxBuckets = (maxFrequencies + 7) / 8
+abbrev pub maxSheetBuckets : ℕ
+maxSheetBuckets = (maxFrequencies + 7) / 8
 
 abbrev pub maxSheetWords : ℕ
 maxSheetWords = wordsFor maxFrequencies
@@ -46,7 +46,7 @@ abbrev pub maxBucketPart : ℕ
 maxBucketPart = maxBucketLine + 8 * maxBucketletLine
 
 abbrev pub maxSheet : ℕ
-maxSheet = maxHeadLine + maxBuckets * maxBucketPart
+maxSheet = maxHeadLine + maxSheetBuckets * maxBucketPart
 
 -- ---- the bytes that are lent: for a line, whatever its numbers, and for a sheet
 

@@ -9,13 +9,13 @@ use Rattle.words_rules.specs.declared.Bucket.{Bucket}
 use Rattle.words_rules.specs.Words.{entries, buckets}
 use Rattle.words_rules.specs.Decoded.{classAt, bucketletStart, widthAt}
 use Rattle.words_rules.specs.Reading.{Readable}
-use Rattle.sheet_rules.specs.Limits.{maxFrequencies, maxBuckets}
+use Rattle.sheet_rules.specs.Limits.{maxFrequencies, maxSheetBuckets}
 
 -- a histogram of so few entries and buckets that its sheet has room
 pub record Roomy (ws : List ℕ) : Type 0 where
   pub readable : Readable ws
   pub short : entries ws ≤ maxFrequencies
-  pub few : buckets ws ≤ maxBuckets
+  pub few : buckets ws ≤ maxSheetBuckets
 
 -- a bucket whose lines are short
 pub record Printable (r : Bucket) : Type 0 where
