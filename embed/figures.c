@@ -20,7 +20,7 @@ static size_t passed, failed;
 /* Frequencies, and words of histograms. */
 static const uint32_t four_tens[] = {10, 10, 10, 10}; /* with its words, of document 01: theta 1, q 3/2 */
 static const uint32_t tens[] = {4, 1, 0xC02, 1, 0x40000204, 0x8B000000, 0x80000500, 0xC0000000, 0xC0000000};
-static const uint32_t two[] = { /* of layout/specs/Examples.antt: two buckets, of the entries 0 to 3 and 4 to 9 */
+static const uint32_t two[] = { /* of words_rules/specs/Worked.antt: two buckets, of the entries 0 to 3 and 4 to 9 */
     10, 1, 0xC02, 2, 0x40000201, 0x810C4140, 0x80000500, 0xC0040201, 0xC0000000,
     0x40001001, 0x881C0180, 0x80000801, 0xC0000200, 0xC0000000};
 
@@ -71,7 +71,7 @@ static void built(const char *what, QhBuilt got, QhBuilt expected, const uint32_
 
 /* No two of theta, qn and qd are equal: the head words tell them apart. */
 static void builds(void) {
-    /* the widths 3 and 1 are those of histogram/specs/Worked.antt; by hand: 9 has class 7, 10 the code 320 */
+    /* the widths 3 and 1 are those of build_rules/specs/Worked.antt; by hand: 9 has class 7, 10 the code 320 */
     const uint32_t fours[] = {4, 1, 4, 1};
     const uint32_t of_fours[] = {4, 7, 0x1404, 1, 0x40000203, 0x87040000, 0x80000140, 0xC0040000, 0xC0000000};
     /* by hand: 1 and 100 never go together (document 01); 404 has the code 3234; the ninth entry is a bucket */
@@ -97,7 +97,7 @@ static void verdict(const char *what, QhVerdict got, QhVerdict expected) {
     figure(what, "end", expected.end, got.end);
 }
 
-/* The examples of verdict/specs/Worked.antt, by their names there; the first two are document 01's. */
+/* The examples of check_rules/specs/Worked.antt, by their names there; the first two are document 01's. */
 static void verdicts(void) {
     const uint32_t hundred[] = {10, 10, 10, 100}, sixty[] = {6, 6, 4, 6, 6, 60}, forty[] = {10, 10, 10, 40};
     const uint32_t twos[] = {2, 2, 2, 2};
@@ -120,7 +120,7 @@ static void estimated(const char *what, QhEstimate got, QhEstimate expected) {
     figure(what, "estimate", expected.estimate, got.estimate);
 }
 
-/* Of tens document 01's examples, and "turned" and those of two of estimate/specs/Worked.antt. */
+/* Of tens document 01's examples, and "turned" and those of two of estimate_rules/specs/Worked.antt. */
 static void estimates(void) {
     estimated("1 to 3 of tens", qh_estimate(LIST(tens), 1, 3), (QhEstimate){.estimate = 17});
     estimated("0 to 3 of tens", qh_estimate(LIST(tens), 0, 3), (QhEstimate){.estimate = 26});
@@ -138,7 +138,7 @@ static void found(const char *what, QhFound got, QhFound expected) {
     figure(what, "at", expected.at, got.at);
 }
 
-/* "places" and "faults" of layout/specs/Examples.antt. */
+/* "places" and "faults" of words_rules/specs/Worked.antt. */
 static void places(void) {
     found("entry 3 of two", qh_find(LIST(two), 3), (QhFound){.at = 4});
     found("entry 4 of two", qh_find(LIST(two), 4), (QhFound){.at = 9});
@@ -160,7 +160,7 @@ static void sheet(const char *what, const char *input, const char *expected) {
     figure_at(what, "byte", at, at < length ? (uint8_t)expected[at] : MARK, page[at]);
 }
 
-/* Document 01, "The exam sheet", and refusals of exam/specs/Worked.antt. */
+/* Document 01, "The exam sheet", and refusals of sheet_rules/specs/Worked.antt. */
 static void sheets(void) {
     sheet("the sheet of 1, 100", "1\n3\n2\n1\n100\n",
           "codes 2 theta 1 q 3/2 buckets 1\nbucket 0 2 total 3232 101\n0 1 code 1 count 1\n1 2 code 14 count 93\n");

@@ -47,7 +47,7 @@ module _ (q : Quality) (fs : List ℕ) (a : ℕ) (sound : Sound fs q) where
   cap-pos i n = omega (arith, mul-le-mul (sound .qd-some) (sound .theta-some))
 
   module _ (w i : ℕ) (in-row : suc i ≤ w) (narrow : w ≤ maxWidth) where
-    -- a fraction that is the greatest of its set, and small
+    -- a ratio that is the greatest of its set, and small
     record Low (j : ℕ) (p : Ratio) : Type 0 where
       greatest : Greatest (rangeCount fs a) rangeLength (HeavySeen q fs a w j) (p .top) (p .bottom)
       top : p .top ≤ limit

@@ -2,6 +2,7 @@
 
 use words_rules::BUCKET_WORDS;
 use words_rules::HEAD_WORDS;
+ghost use mathlib.Core.List.{[], _∷_};
 ghost use mathlib.Core.Path.{_≡_};
 ghost use Rattle.build_rules.specs.Words.{maxWords};
 
@@ -9,8 +10,8 @@ ghost use Rattle.build_rules.specs.Words.{maxWords};
 pub const MAX_WORDS: usize = HEAD_WORDS + BUCKET_WORDS * ((65536 + 7) / 8);
 
 // It is that of the definition.
-pub fn longest_histogram() -> usize
-    ensures { λ r. ⌜ r ≡ maxWords ⌝ }
+pub fn sizes() -> [usize; 1]
+    ensures { λ r. ⌜ r ≡ maxWords ∷ [] ⌝ }
 {
-    MAX_WORDS
+    [MAX_WORDS]
 }

@@ -3,15 +3,16 @@
 use mathlib.Core.Path.{_≡_}
 use mathlib.Core.Bool.{true, false}
 use mathlib.Core.List.{List, [], _∷_, _++_}
-use Prim.Native.Nat.{ℕ, _+_, _*_, _^_}
+use Prim.Native.Nat.{ℕ, _*_}
 use lib.ListN.{set}
 use Rattle.words_rules.specs.Worked.{tens, gaps}
+use Rattle.words_rules.specs.Words.{encodeHead}
 use Rattle.words_rules.specs.Decoded.{startWord, classWord, totalWord, widthWord}
 use Rattle.check_rules.specs.Reply.{acceptedAnswer, refusedAnswer, failedAnswer}
 use Rattle.check_rules.specs.Checking.{checkReply}
 
 abbrev pub heads : ℕ → ℕ → ℕ → ℕ → ℕ → List ℕ
-heads d theta qn qd buckets = d ∷ theta ∷ (qn * 2 ^ 10 + qd) ∷ buckets ∷ []
+heads d theta qn qd buckets = encodeHead (record { entries = d; theta = theta; qn = qn; qd = qd; buckets = buckets })
 
 -- a bucket of one bucketlet, with a total below 128
 abbrev pub bucket : ℕ → ℕ → ℕ → ℕ → List ℕ

@@ -65,8 +65,8 @@ pub fn class_of(count: u32) -> Coded
     Coded::Code(class_search(count))
 }
 
-// Whether counts have a class.
-pub fn is_class(class: u32) -> bool
+// Whether a class is one that counts have.
+pub fn is_used_class(class: u32) -> bool
     ensures { λ r. ⌜ r ≡ usedClass class ⌝ }
 {
     if class == 0 {
@@ -83,7 +83,7 @@ pub fn number_of_class(class: u32) -> Meaning
     ensures { λ r. ⌜ meaningReply r ≡ classMeaning class ⌝ }
     ensures { λ r. ⌜ r ≡ meaningOf (classMeaning class) ⌝ }
 {
-    if !is_class(class) {
+    if !is_used_class(class) {
         return Meaning::Refused;
     }
     Meaning::Number(counts_tables::class_number(class))

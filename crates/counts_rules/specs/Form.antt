@@ -1,5 +1,5 @@
 -- A form of buckets: what its classes are, how wide they are in a word, how many words a bucket has, and the least q (document 01, "How counts
--- are written small", "Words" and "The list and the range"). There is one form; a second is a second value of the record.
+-- are written small", "Words" and "The list and the range"). There is one form; what a second one takes is said in docs/DECISIONS.md.
 -- Assumes nothing.
 use mathlib.Core.Bool.{Bool, not, _&&_}
 use Prim.Native.Nat.{ℕ}

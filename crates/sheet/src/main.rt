@@ -1,4 +1,4 @@
-// The exam sheet: reads numbers from standard input and prints what the listing of them says.
+// The exam sheet: reads numbers from standard input and prints their exam sheet.
 
 use libc::STDERR_FILENO;
 use libc::STDIN_FILENO;

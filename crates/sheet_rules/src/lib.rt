@@ -17,7 +17,7 @@ pub const MOST_NUMBERS: usize = 3 + MAX_FREQUENCIES;
 pub const MAX_INPUT: usize = (10 + 1) * MOST_NUMBERS;
 
 // How many words the histogram of the longest list has.
-pub const SHEET_WORDS: usize = HEAD_WORDS + BUCKET_WORDS * ((MAX_FREQUENCIES + 7) / 8);
+pub const MAX_SHEET_WORDS: usize = HEAD_WORDS + BUCKET_WORDS * ((MAX_FREQUENCIES + 7) / 8);
 
 // The bytes that are lent for a line and for a sheet.
 pub const LINE_BYTES: usize = 80;
@@ -33,7 +33,7 @@ pub fn sizes() -> [usize; 7]
         LEAST_NUMBERS,
         MOST_NUMBERS,
         MAX_INPUT,
-        SHEET_WORDS,
+        MAX_SHEET_WORDS,
         LINE_BYTES,
         SHEET_BYTES,
     ]

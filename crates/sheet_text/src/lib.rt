@@ -5,8 +5,8 @@ mod printing;
 use builder::Built;
 use printing::put;
 use printing::put_histogram;
+use sheet_rules::MAX_SHEET_WORDS;
 use sheet_rules::SHEET_BYTES;
-use sheet_rules::SHEET_WORDS;
 ghost use mathlib.Core.Path.{_≡_};
 ghost use Prim.Native.Nat.{_≤_};
 ghost use lib.ListN.{length};
@@ -19,7 +19,7 @@ fn put_list(freqs: &[u32], theta: u32, qn: u32, qd: u32, out: &mut [u8; SHEET_BY
     requires { ⌜ length (now freqs) ≤ maxFrequencies ⌝ }
     ensures { λ r. ⌜ Put (now (out .entry)) (now (out .exit)) 0 r (listSheet (now (freqs .entry)) theta qn qd) ⌝ }
 {
-    let mut words = [0u32; SHEET_WORDS];
+    let mut words = [0u32; MAX_SHEET_WORDS];
     let built = builder::build(freqs, theta, qn, qd, &mut words);
     match built {
         Built::Words(n) => put_histogram(&words[..n], out),

@@ -54,14 +54,14 @@ pub fn widths_broken(span: u32, listed: u32) -> bool
     4095 < span - listed
 }
 
-// Whether a class is one that no count has, or is 0 where the width is not or the reverse.
+// Whether a class other than 0 is one that no count has, or a class is 0 where the width is not or the reverse.
 pub fn class_broken(width: u32, class: u32) -> bool
     ensures { λ r. ⌜ r ≡ classBroken width class ⌝ }
 {
     if class == 0 {
         return width != 0;
     }
-    if !counts::is_class(class) {
+    if !counts::is_used_class(class) {
         return true;
     }
     width == 0

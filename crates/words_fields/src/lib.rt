@@ -114,14 +114,14 @@ pub fn decode(packed: [u32; BUCKET_WORDS], end: u32) -> Bucket
 }
 
 // What head words hold.
-pub fn head_of(packed: [u32; HEAD_WORDS]) -> Head
-    ensures { λ r. ⌜ r ≡ headOf packed ⌝ }
+pub fn head_of(words: [u32; HEAD_WORDS]) -> Head
+    ensures { λ r. ⌜ r ≡ headOf words ⌝ }
 {
     Head {
-        entries: packed[0],
-        theta: packed[1],
-        qn: field_of(packed[2], 19, 10),
-        qd: field_of(packed[2], 9, 0),
-        buckets: packed[3],
+        entries: words[0],
+        theta: words[1],
+        qn: field_of(words[2], 19, 10),
+        qd: field_of(words[2], 9, 0),
+        buckets: words[3],
     }
 }

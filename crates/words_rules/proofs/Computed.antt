@@ -1,4 +1,4 @@
--- The worked examples of specs/Examples.antt, computed.
+-- The worked examples of specs/Worked.antt, computed.
 -- Assumes nothing.
 use mathlib.Core.Path.{refl}
 use Rattle.laws.specs.Each.{each, some}

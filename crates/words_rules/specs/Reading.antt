@@ -65,7 +65,7 @@ widthsBroken span listed = ltb span listed || ltb maxWidth (span - listed)
 unfoldable pub widthFault : List ℕ → Bool
 widthFault ws = some (buckets ws) (λ b. widthsBroken (span ws b) (sum (listedIn (packedAt ws b))))
 
--- 12: a class is 2 or 63, which are those of six bits that no count has, a class is 0 where the width is not or the reverse, or a total code is not valid
+-- 12: a class is 2 or 63, which are those of six bits but for 0 that no count has, a class is 0 where the width is not or the reverse, or a total code is not valid
 
 unfoldable pub classBroken : ℕ → ℕ → Bool
 classBroken width class = (not (eqb class 0) && not (usedClass class)) || (eqb class 0 && not (eqb width 0) || eqb width 0 && not (eqb class 0))

@@ -1,5 +1,6 @@
 // The words of a histogram: the definitions, what is proved of them, and the types and sizes that code and definitions share.
 
+ghost use mathlib.Core.List.{[], _∷_};
 ghost use mathlib.Core.Path.{_≡_};
 ghost use Rattle.words_rules.specs.Words.{headWords, bucketWords};
 
@@ -7,18 +8,11 @@ pub const HEAD_WORDS: usize = 4;
 
 pub const BUCKET_WORDS: usize = 5;
 
-// The two sizes are those of the definitions.
-
-pub fn words_of_head() -> usize
-    ensures { λ r. ⌜ r ≡ headWords ⌝ }
+// They are those of the definitions.
+pub fn sizes() -> [usize; 2]
+    ensures { λ r. ⌜ r ≡ headWords ∷ bucketWords ∷ [] ⌝ }
 {
-    HEAD_WORDS
-}
-
-pub fn words_of_bucket() -> usize
-    ensures { λ r. ⌜ r ≡ bucketWords ⌝ }
-{
-    BUCKET_WORDS
+    [HEAD_WORDS, BUCKET_WORDS]
 }
 
 // What the head words hold: d, theta, q as qn/qd, and the number of buckets.

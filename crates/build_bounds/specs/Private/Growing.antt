@@ -1,4 +1,4 @@
--- The words of the private contracts of growth.
+-- The words of the private contracts of the builder's `growth`.
 -- Assumes nothing.
 use mathlib.Core.Path.{_≡_}
 use mathlib.Core.Bool.{Bool, cond, _&&_}

@@ -16,7 +16,7 @@ returns : tie.Need-returns
 unfolding classMeaning
 returns c =
     let k = c .before .before .args .class in
-    turned-away Number (λ _. Refused) (usedClass k) (classNumber base k) 17 (sym (c .before .is-class .ensures) ∙ not-true _ (c .if1 .taken)) (λ z. omega arith)
+    turned-away Number (λ _. Refused) (usedClass k) (classNumber base k) 17 (sym (c .before .is-used-class .ensures) ∙ not-true _ (c .if1 .taken)) (λ z. omega arith)
 
 class-number-requires : tie.Need-class-number-requires
 class-number-requires c κs = search needs
@@ -25,7 +25,7 @@ returns-2 : tie.Need-returns-2
 unfolding classMeaning
 returns-2 c =
     let k = c .before .before .before .args .class in
-    let t = sym (c .before .before .is-class .ensures) ∙ not-false _ (c .before .if1 .left) in
+    let t = sym (c .before .before .is-used-class .ensures) ∙ not-false _ (c .before .if1 .left) in
     replied Number (λ _. Refused) (usedClass k) _ (classNumber base k) 17 t (c .class-number .ensures ∙ number-in k t)
 
 pub number-of-class-spec : {M : Type 1} → statement M

@@ -23,13 +23,13 @@ returns c =
 returns-2 : tie.Need-returns-2
 returns-2 c =
     let a = c .before .before .before .args in
-    let unused : usedClass (a .class) ≡ false = sym (c .before .is-class .ensures) ∙ not-true _ (c .if2 .taken) in
+    let unused : usedClass (a .class) ≡ false = sym (c .before .is-used-class .ensures) ∙ not-true _ (c .if2 .taken) in
     sym (is-true _ (λ f. true-not-false (class-good _ _ f .known (λ e. omega arith)) unused))
 
 returns-3 : tie.Need-returns-3
 returns-3 c =
     let a = c .before .before .before .args in
-    let used : usedClass (a .class) ≡ true = sym (c .before .is-class .ensures) ∙ not-false _ (c .if2 .left) in
+    let used : usedClass (a .class) ≡ true = sym (c .before .is-used-class .ensures) ∙ not-false _ (c .if2 .left) in
     agree _ _
     (λ t. is-true _ (λ f. let e : a .class ≡ 0 = class-good _ _ f .empty (omega (arith, eqb-true)) in omega arith))
     (λ f. no-class-fault _ _ (record { known = λ _. used; empty = λ e. absurd (omega (arith, eqb-false)); full = λ e. absurd (omega arith) }))

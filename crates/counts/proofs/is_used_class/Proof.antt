@@ -1,4 +1,4 @@
--- `counts::is_class` meets its contract. The three tests are those of the classes in use.
+-- `counts::is_used_class` meets its contract. The three tests are those of the classes in use.
 -- Assumes nothing.
 use mathlib.Core.Path.{sym}
 use native.Mathlib.Omega.{arith}
@@ -6,8 +6,8 @@ use borrow.Author.Tests.{ltb-true, ltb-false, leb-true, leb-false}
 use Rattle.laws.proofs.Tests.{agree}
 use Rattle.counts_rules.proofs.BaseLaws.{says-used}
 use Rattle.counts.proofs.CountLaws.{not-used}
-use Rattle.counts.proofs.is_class.Statement.{statement}
-use Rattle.counts.proofs.is_class.Tie as tie
+use Rattle.counts.proofs.is_used_class.Statement.{statement}
+use Rattle.counts.proofs.is_used_class.Tie as tie
 
 returns : tie.Need-returns
 returns c = sym (not-used (c .before .args .class) (λ h l n. omega arith))
@@ -22,5 +22,5 @@ returns-3 c =
     (λ t. says-used k (omega arith) (omega (arith, ltb-true, leb-true)) (λ e. omega arith))
     (λ f. not-used k (λ h l n. omega (arith, ltb-false, leb-false)))
 
-pub is-class-spec : {M : Type 1} → statement M
-is-class-spec = tie.close (tie.spec returns returns-2 returns-3)
+pub is-used-class-spec : {M : Type 1} → statement M
+is-used-class-spec = tie.close (tie.spec returns returns-2 returns-3)
