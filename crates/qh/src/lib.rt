@@ -206,5 +206,6 @@ pub extern "C" fn qh_sheet(input: &[u8], out: &mut [u8; SHEET_BYTES]) -> usize
     ensures { λ r. ⌜ r ≡ length (sheet (now (input .entry))) ⌝ }
     ensures { λ r. ⌜ now (out .exit) ≡ filled (now (out .entry)) (sheet (now (input .entry))) ⌝ }
 {
-    sheet_text::put_sheet(input, out)
+    let printed = sheet_text::put_sheet(input, out);
+    printed.length
 }

@@ -41,18 +41,73 @@ fn read_all(space: &mut [u8]) -> Read
     Read { count, failed }
 }
 
+fn say(line: &[u8]) {
+    io::write_all(STDERR_FILENO, line);
+}
+
+// Someone who starts the program without input should know what it waits for.
+fn say_awaited() {
+    say(
+        b"sheet: waiting for theta, qn, qd and the frequencies, one number a line; Ctrl-D ends the input.\n",
+    );
+    say(b"The first three numbers are always taken as theta, qn and qd, never as frequencies.\n");
+}
+
+// How an input looks, for one that stops being so at a line.
+fn say_input(line: usize) {
+    say(b"It stops being so at line ");
+    io::print_decimal(STDERR_FILENO, line as u64);
+    say(
+        b". Carriage returns, spaces, tabs, commas, signs, headings, blank lines and byte order marks are not allowed.\n",
+    );
+    say(
+        b"The input comes on standard input; sheet takes no argument. For theta 1, q 3/2 and the frequencies 1 and 100 it is\n",
+    );
+    say(b"1\n3\n2\n1\n100\n");
+}
+
+// The sentence of a refusal, and what mends it.
+fn say_refused(number: u32, line: usize) {
+    match number {
+        2 => say(b"sheet: A frequency is 0.\n"),
+        3 => say(b"sheet: The frequencies sum to more than 1,073,741,823.\n"),
+        4 => {
+            say(b"sheet: Theta is outside its limits.\n");
+            say(b"It is the first number: 1 to 1,048,575.\n");
+        }
+        5 => {
+            say(b"sheet: q is outside its limits.\n");
+            say(
+                b"It is qn/qd, the second and the third number: each 1 to 1,000, and q at least 5/4.\n",
+            );
+        }
+        18 => {
+            say(
+                b"sheet: The input is not theta, qn, qd and 1 to 4,096 frequencies: decimal numbers below 4,294,967,296 without leading zeros, one a line, each line ended by a line feed.\n",
+            );
+            say_input(line);
+        }
+        _ => {}
+    }
+}
+
 fn main() {
+    if libc::isatty(STDIN_FILENO) == 1 {
+        say_awaited();
+    }
     // One byte more than the longest input: where it is filled, no byte that follows changes what is printed.
     let mut space = [0u8; MAX_INPUT + 1];
     let read = read_all(&mut space);
     if read.failed {
-        io::write_all(STDERR_FILENO, b"sheet: standard input cannot be read\n");
+        say(b"sheet: standard input cannot be read\n");
         return;
     }
     let n = read.count;
     let mut out = [0u8; SHEET_BYTES];
     let printed = sheet_text::put_sheet(&space[..n], &mut out);
-    if !io::write_all(STDOUT_FILENO, &out[..printed]) {
-        io::write_all(STDERR_FILENO, b"sheet: standard output cannot be written\n");
+    let length = printed.length;
+    if !io::write_all(STDOUT_FILENO, &out[..length]) {
+        say(b"sheet: standard output cannot be written\n");
     }
+    say_refused(printed.refusal, printed.line);
 }

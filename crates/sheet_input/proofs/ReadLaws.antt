@@ -5,7 +5,7 @@ use mathlib.Core.Bool.{Bool, true, false, cond}
 use mathlib.Core.List.{List, [], _∷_, _++_, append-nil}
 use Prim.Native.Nat.{ℕ, suc, _+_, _-_, _≤_, _<_}
 use native.Mathlib.Omega.{arith}
-use lib.ListN.{length, take, drop, set, length-set, length-append, length-replicate, drop-of-length-le}
+use lib.ListN.{length, take, drop, set, length-set, length-append, length-drop, length-replicate, drop-of-length-le}
 use lib.Seq.{take-suc-set, append-snoc, length-take-le}
 use Rattle.laws.specs.Padded.{zeros}
 use Rattle.laws.proofs.PaddedLaws.{zeros-after, is-padded}
@@ -13,7 +13,8 @@ use Rattle.laws.proofs.Tests.{both, fails-left, fails-right, is-false}
 use Rattle.laws.specs.Between.{between}
 use Rattle.laws.proofs.BetweenLaws.{within, is-within}
 use Rattle.sheet_rules.specs.Limits.{leastNumbers, mostNumbers}
-use Rattle.sheet_rules.specs.Input.{lines, every, allNumerals, numbers, asDescribed}
+use Rattle.sheet_rules.specs.Input.{lines, every, allNumerals, numbers, passing, numeralLines, faultLine, asDescribed}
+use Rattle.sheet_rules.proofs.InputLaws.{no-numerals}
 use Rattle.sheet_input.specs.declared.Numbers.{Numbers}
 use Rattle.sheet_input.specs.Private.Lines.{Stepped}
 use Rattle.sheet_input.specs.Numbers.{numbersOf, inputNumbers}
@@ -26,10 +27,16 @@ pub record Begun (input values : List ℕ) (n start : ℕ) : Type 0 where
   pub past : drop n values ≡ zeros (mostNumbers - n)
   pub numerals : allNumerals (lines input) ≡ allNumerals (lines (drop start input))
   pub read : numbers input ≡ take n values ++ numbers (drop start input)
+  pub passed : numeralLines input ≡ n + numeralLines (drop start input)
 
 pub begun-none : (input : List ℕ) → Begun input (zeros mostNumbers) 0 0
 begun-none input =
-    record { inside = omega arith; many = omega arith; room = length-replicate {A = ℕ} mostNumbers 0; past = refl; numerals = refl; read = refl }
+    record { inside = omega arith; many = omega arith; room = length-replicate {A = ℕ} mostNumbers 0; past = refl; numerals = refl; read = refl; passed = omega arith }
+
+-- it is not as described, from a line on
+pub record Fault (input : List ℕ) (line : ℕ) : Type 0 where
+  pub not-described : asDescribed input ≡ false
+  pub from : line ≡ faultLine input
 
 not-described : (input : List ℕ) → between leastNumbers mostNumbers (length (numbers input)) ≡ false → asDescribed input ≡ false
 unfolding asDescribed
@@ -52,20 +59,31 @@ module _ (input values : List ℕ) (n start : ℕ) (b : Begun input values n sta
             ∙ ap (λ (l : List ℕ). take n values ++ l) (s .values)
             ∙ sym (append-snoc (take n values) v (numbers (drop next input)))
             ∙ ap (λ (l : List ℕ). l ++ numbers (drop next input)) (sym (take-suc-set values n v (omega (arith, b .room))));
+        passed = omega (arith, b .passed, s .passed);
       }
 
-  pub broken-line : allNumerals (lines (drop start input)) ≡ false → asDescribed input ≡ false
+  pub broken-line : start < length input → numeralLines (drop start input) ≡ 0 → Fault input (n + 1)
   unfolding asDescribed
-  broken-line h = fails-left (allNumerals (lines input)) (between leastNumbers mostNumbers (length (numbers input))) (b .numerals ∙ h)
+  broken-line h z =
+      record {
+        not-described =
+            fails-left (allNumerals (lines input)) (between leastNumbers mostNumbers (length (numbers input)))
+            (b .numerals ∙ no-numerals (drop start input) (omega (arith, length-drop start input)) z);
+        from = omega (arith, b .passed, b .many, z);
+      }
 
-  pub too-many : (v next : ℕ) → n ≡ mostNumbers → Stepped input start v next → asDescribed input ≡ false
+  pub too-many : (v next : ℕ) → n ≡ mostNumbers → Stepped input start v next → Fault input (n + 1)
   too-many v next h s =
       let all : length (numbers input) ≡ n + suc (length (numbers (drop next input))) =
       ap length (b .read ∙ ap (λ (l : List ℕ). take n values ++ l) (s .values))
       ∙ length-append (take n values) (v ∷ numbers (drop next input))
       ∙ ap (λ (k : ℕ). k + suc (length (numbers (drop next input)))) taken in
-      not-described input
-      (is-false (between leastNumbers mostNumbers (length (numbers input))) (λ t. omega (arith, within leastNumbers mostNumbers (length (numbers input)) t .most, all)))
+      record {
+        not-described =
+            not-described input
+            (is-false (between leastNumbers mostNumbers (length (numbers input))) (λ t. omega (arith, within leastNumbers mostNumbers (length (numbers input)) t .most, all)));
+        from = omega (arith, b .passed, s .passed, h);
+      }
 
   module _ (end : length input ≤ start) where
     nothing : drop start input ≡ []
@@ -78,10 +96,15 @@ module _ (input values : List ℕ) (n start : ℕ) (b : Begun input values n sta
     how-many : length (numbers input) ≡ n
     how-many = ap length numbers-are ∙ taken
 
-    pub too-few : n < leastNumbers → asDescribed input ≡ false
+    pub too-few : n < leastNumbers → Fault input (n + 1)
+    unfolding lines passing
     too-few h =
-        not-described input
-        (is-false (between leastNumbers mostNumbers (length (numbers input))) (λ t. omega (arith, within leastNumbers mostNumbers (length (numbers input)) t .least, how-many)))
+        record {
+          not-described =
+              not-described input
+              (is-false (between leastNumbers mostNumbers (length (numbers input))) (λ t. omega (arith, within leastNumbers mostNumbers (length (numbers input)) t .least, how-many)));
+          from = let none : numeralLines (drop start input) ≡ 0 = ap numeralLines nothing in omega (arith, b .passed, b .many, none);
+        }
 
     described : leastNumbers ≤ n → asDescribed input ≡ true
     unfolding asDescribed lines every
@@ -90,16 +113,19 @@ module _ (input values : List ℕ) (n start : ℕ) (b : Begun input values n sta
         (b .numerals ∙ ap (λ (l : List ℕ). allNumerals (lines l)) nothing)
         (is-within leastNumbers mostNumbers (length (numbers input)) (record { least = omega (arith, how-many); most = omega (arith, how-many, b .many) }))
 
-    pub all-read : leastNumbers ≤ n → record { refusal = 0; count = n; values = values } ≡ inputNumbers input
+    pub all-read : leastNumbers ≤ n → record { refusal = 0; line = 0; count = n; values = values } ≡ inputNumbers input
     unfolding inputNumbers
     all-read h =
         ap (λ (k : ℕ). answer k values) (sym how-many)
         ∙ ap (answer (length (numbers input))) (is-padded mostNumbers n values (numbers input) (sym numbers-are) how-many (b .past))
-        ∙ ap (λ (t : Bool). cond t (numbersOf 0 (numbers input)) (numbersOf 18 [])) (sym (described h))
+        ∙ ap (λ (t : Bool). cond t (numbersOf 0 0 (numbers input)) (numbersOf 18 (faultLine input) [])) (sym (described h))
       where
         answer : ℕ → List ℕ → Numbers
-        answer k l = record { refusal = 0; count = k; values = l }
+        answer k l = record { refusal = 0; line = 0; count = k; values = l }
 
-pub refused-numbers : (input : List ℕ) (r : Numbers) → r ≡ numbersOf 18 [] → asDescribed input ≡ false → r ≡ inputNumbers input
+pub refused-numbers : (input : List ℕ) (r : Numbers) (line : ℕ) → r ≡ numbersOf 18 line [] → Fault input line → r ≡ inputNumbers input
 unfolding inputNumbers
-refused-numbers input r e h = e ∙ ap (λ (t : Bool). cond t (numbersOf 0 (numbers input)) (numbersOf 18 [])) (sym h)
+refused-numbers input r line e f =
+    e
+    ∙ ap (λ (k : ℕ). numbersOf 18 k []) (f .from)
+    ∙ ap (λ (t : Bool). cond t (numbersOf 0 0 (numbers input)) (numbersOf 18 (faultLine input) [])) (sym (f .not-described))

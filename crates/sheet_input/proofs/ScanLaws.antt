@@ -1,7 +1,7 @@
 -- Laws of a line that is read byte by byte: while its digits are a number, one byte more is a digit of it, ends it, or breaks it for good.
 -- Assumes nothing.
 use mathlib.Core.Path.{_≡_, sym, ap, _∙_}
-use mathlib.Core.Bool.{Bool, true, false, not, _&&_}
+use mathlib.Core.Bool.{Bool, true, false, not, cond, _&&_}
 use mathlib.Core.List.{List, [], _∷_, _++_, map}
 use Prim.Native.Nat.{ℕ, suc, _+_, _-_, _*_, _^_, _≤_, _<_}
 use native.Mathlib.Omega.{arith}
@@ -9,8 +9,8 @@ use borrow.Author.Tests.{eqb-true, ltb-true, eq-eqb, ne-eqb, lt-ltb}
 use lib.Dec.{ltb, eqb}
 use lib.ListN.{length, getD, take, drop, length-append, length-drop, take-append-drop, List·getD-append}
 use lib.Seq.{take-suc, drop-cons, drop-drop, take-all, getD-drop, getD-take, length-take-le}
-use Rattle.laws.proofs.Tests.{both, both-left, both-right, fails-left, fails-right, true-not-false, is-false, not-holds}
-use Rattle.sheet_rules.specs.Input.{lineFeed, Lines, lines, every, digit, leadingZero, valueAfter, value, numeral, allNumerals, numbers}
+use Rattle.laws.proofs.Tests.{both, both-left, both-right, true-not-false, is-false, not-holds}
+use Rattle.sheet_rules.specs.Input.{lineFeed, Lines, lines, every, digit, leadingZero, valueAfter, value, numeral, allNumerals, numbers, passing, numeralLines}
 use Rattle.sheet_rules.proofs.InputLaws.{noFeed, every-back, every-both, every-one, value-snoc, Numeral, is-numeral, numeral-is, ended-line, open-line, broken}
 use Rattle.sheet_rules.proofs.LinesLaws.{digits-no-feed}
 use Rattle.sheet_input.specs.Private.Lines.{Stepped}
@@ -56,14 +56,11 @@ module _ (input : List ℕ) (start i n : ℕ) (s : Scanned input start i n) wher
   no-feed = digits-no-feed (piece input start i) (s .digits)
 
   -- nothing is left, and no line feed came
-  pub not-ended : start < length input → length input ≤ i → allNumerals (lines (drop start input)) ≡ false
-  unfolding every
-  not-ended h e =
+  pub not-ended : length input ≤ i → numeralLines (drop start input) ≡ 0
+  unfolding passing
+  not-ended e =
       let all : drop start input ≡ piece input start i = sym (take-all (i - start) (drop start input) (omega (arith, length-drop start input))) in
-      ap (λ (l : List ℕ). allNumerals (lines l)) all
-      ∙ ap allNumerals (open-line (piece input start i) no-feed)
-      ∙ fails-right true (eqb (length (piece input start i)) 0)
-      (ne-eqb (length (piece input start i)) 0 (λ z. omega (arith, z, piece-length)))
+      ap numeralLines all ∙ ap (λ (ls : Lines). passing numeral (ls .ended)) (open-line (piece input start i) no-feed)
 
   module _ (c : ℕ) (is : c ≡ getD input i 0) (here : i < length input) where
     piece-more : piece input start (suc i) ≡ piece input start i ++ (c ∷ [])
@@ -82,7 +79,7 @@ module _ (input : List ℕ) (start i n : ℕ) (s : Scanned input start i n) wher
 
     -- it ends the number
     pub ended : c ≡ lineFeed → start < i → Stepped input start n (suc i)
-    unfolding numbers every
+    unfolding numbers every passing
     ended e h =
         let is-number : numeral (piece input start i) ≡ true =
         is-numeral (piece input start i)
@@ -94,27 +91,31 @@ module _ (input : List ℕ) (start i n : ℕ) (s : Scanned input start i n) wher
               ap allNumerals (fed e)
               ∙ ap (λ (t : Bool). (t && every numeral (lines (drop (suc i) input) .ended)) && eqb (length (lines (drop (suc i) input) .rest)) 0) is-number;
           values = ap (λ (ls : Lines). map value (ls .ended)) (fed e) ∙ ap (λ (v : ℕ). v ∷ numbers (drop (suc i) input)) (sym (s .valued));
+          passed =
+              ap (λ (ls : Lines). passing numeral (ls .ended)) (fed e)
+              ∙ ap (λ (t : Bool). cond t (suc (numeralLines (drop (suc i) input))) 0) is-number;
         }
 
     -- or an empty line
-    pub empty-line : c ≡ lineFeed → i ≡ start → allNumerals (lines (drop start input)) ≡ false
-    unfolding every
+    pub empty-line : c ≡ lineFeed → i ≡ start → numeralLines (drop start input) ≡ 0
+    unfolding passing
     empty-line e h =
         let no-number : numeral (piece input start i) ≡ false =
         is-false (numeral (piece input start i)) (λ t. omega (arith, numeral-is (piece input start i) t .some, piece-length)) in
-        ap allNumerals (fed e) ∙ fails-left _ _ (fails-left (numeral (piece input start i)) _ no-number)
+        ap (λ (ls : Lines). passing numeral (ls .ended)) (fed e)
+        ∙ ap (λ (t : Bool). cond t (suc (numeralLines (drop (suc i) input))) 0) no-number
 
     -- another byte that leaves no number breaks it for good
-    breaks : (c ≡ lineFeed → ⊥) → (Numeral (piece input start i ++ (c ∷ [])) → ⊥) → allNumerals (lines (drop start input)) ≡ false
+    breaks : (c ≡ lineFeed → ⊥) → (Numeral (piece input start i ++ (c ∷ [])) → ⊥) → numeralLines (drop start input) ≡ 0
     breaks o b =
-        ap (λ (l : List ℕ). allNumerals (lines l)) (piece-rest input start (suc i) (omega (arith, s .from)) ∙ ap (λ (l : List ℕ). l ++ drop (suc i) input) piece-more)
+        ap numeralLines (piece-rest input start (suc i) (omega (arith, s .from)) ∙ ap (λ (l : List ℕ). l ++ drop (suc i) input) piece-more)
         ∙ broken (drop (suc i) input) (piece input start i ++ (c ∷ []))
         (every-both (λ x. not (eqb x lineFeed)) (piece input start i) (c ∷ []) no-feed
         (every-one (λ x. not (eqb x lineFeed)) c (not-holds (eqb c lineFeed) (ne-eqb c lineFeed o))))
         (omega (arith, length-append (piece input start i) (c ∷ [])))
         (is-false (numeral (piece input start i ++ (c ∷ []))) (λ t. b (numeral-is (piece input start i ++ (c ∷ [])) t)))
 
-    pub no-digit : (c ≡ lineFeed → ⊥) → digit c ≡ false → allNumerals (lines (drop start input)) ≡ false
+    pub no-digit : (c ≡ lineFeed → ⊥) → digit c ≡ false → numeralLines (drop start input) ≡ 0
     unfolding every
     no-digit o d =
         breaks o (λ m. true-not-false (both-left (digit c) true (every-back digit (piece input start i) (c ∷ []) (m .digits))) d)
@@ -128,7 +129,7 @@ module _ (input : List ℕ) (start i n : ℕ) (s : Scanned input start i n) wher
         ∙ getD-drop start input 0 0
         ∙ ap (λ (k : ℕ). getD input k 0) place
 
-    pub after-zero : (c ≡ lineFeed → ⊥) → start < i → getD input start 0 ≡ 48 → allNumerals (lines (drop start input)) ≡ false
+    pub after-zero : (c ≡ lineFeed → ⊥) → start < i → getD input start 0 ≡ 48 → numeralLines (drop start input) ≡ 0
     after-zero o h z =
         breaks o
         (λ m. true-not-false
@@ -137,7 +138,7 @@ module _ (input : List ℕ) (start i n : ℕ) (s : Scanned input start i n) wher
         (lt-ltb 1 (length (piece input start i ++ (c ∷ []))) (omega (arith, h, piece-length, length-append (piece input start i) (c ∷ [])))))
         (m .plain))
 
-    pub too-large : (c ≡ lineFeed → ⊥) → 2 ^ 32 ≤ 10 * n + (c - 48) → allNumerals (lines (drop start input)) ≡ false
+    pub too-large : (c ≡ lineFeed → ⊥) → 2 ^ 32 ≤ 10 * n + (c - 48) → numeralLines (drop start input) ≡ 0
     too-large o l = breaks o (λ m. omega (arith, l, m .small, s .valued, value-snoc (piece input start i) c))
 
     pub scanned-more : digit c ≡ true → (start < i → getD input start 0 ≡ 48 → ⊥) → 10 * n + (c - 48) < 2 ^ 32 → Scanned input start (suc i) (10 * n + (c - 48))

@@ -10,18 +10,21 @@ ghost use mathlib.Core.Path.{_≡_};
 ghost use mathlib.Core.List.{[]};
 ghost use Rattle.sheet_input.specs.Numbers.{numbersOf, inputNumbers};
 
-// The first `count` values are the numbers, and those after them are 0; or the refusal 18.
+// The first `count` values are the numbers, and those after them are 0; or the refusal 18, and the line where the input stops being as described,
+// counted from 1.
 pub struct Numbers {
     pub refusal: u32,
+    pub line: usize,
     pub count: usize,
     pub values: [u32; MOST_NUMBERS],
 }
 
-fn refused() -> Numbers
-    ensures { λ r. ⌜ r ≡ numbersOf 18 [] ⌝ }
+fn refused(line: usize) -> Numbers
+    ensures { λ r. ⌜ r ≡ numbersOf 18 line [] ⌝ }
 {
     Numbers {
         refusal: 18,
+        line,
         count: 0,
         values: [0; MOST_NUMBERS],
     }
@@ -36,20 +39,21 @@ pub fn numbers_of(input: &[u8]) -> Numbers
     let mut start: usize = 0;
     while start < input.len() {
         let Line::Number(value, next) = line_at(input, start) else {
-            return refused();
+            return refused(n + 1);
         };
         if n == MOST_NUMBERS {
-            return refused();
+            return refused(n + 1);
         }
         values[n] = value;
         n += 1;
         start = next;
     }
     if n < LEAST_NUMBERS {
-        return refused();
+        return refused(n + 1);
     }
     Numbers {
         refusal: 0,
+        line: 0,
         count: n,
         values,
     }

@@ -12,12 +12,12 @@ use Rattle.build_rules.specs.Width.{fitsAt, width}
 use Rattle.build_rules.specs.Bucket.{widthsFrom, bucketWidths, classesFrom, bucketFrom}
 use Rattle.build_rules.specs.Words.{bucketsFrom, bucketWordsOf, words}
 use Rattle.sheet_rules.specs.Text.{digits, places}
-use Rattle.sheet_rules.specs.Input.{lines, every, valueAfter, numeral, numbers, asDescribed}
-use Rattle.sheet_rules.specs.Sheet.{joined, bucketletPart, bucketPart, histogramSheet, listSheet, numbersSheet, sheet}
+use Rattle.sheet_rules.specs.Input.{lines, every, valueAfter, numeral, numbers, passing, asDescribed}
+use Rattle.sheet_rules.specs.Sheet.{joined, bucketletPart, bucketPart, histogramSheet, listSheet, numbersSheet, sheetFault, sheet}
 use Rattle.sheet_rules.specs.Worked.{Worked}
 
 pub worked : Worked
-unfolding first largest root each some refusal classOf classNumber highestBit shift bits totalCode middle totalNumber decode encode entriesFault zeroFault sumFault rangesFit bucketletFits fitsAt width widthsFrom bucketWidths classesFrom bucketFrom bucketsFrom bucketWordsOf words digits places lines every valueAfter numeral numbers asDescribed joined bucketletPart bucketPart histogramSheet listSheet numbersSheet sheet
+unfolding first largest root each some refusal classOf classNumber highestBit shift bits totalCode middle totalNumber decode encode entriesFault zeroFault sumFault rangesFit bucketletFits fitsAt width widthsFrom bucketWidths classesFrom bucketFrom bucketsFrom bucketWordsOf words digits places lines every valueAfter numeral numbers passing asDescribed joined bucketletPart bucketPart histogramSheet listSheet numbersSheet sheetFault sheet
 worked =
     record {
       pair = refl;
@@ -37,4 +37,13 @@ worked =
       largest = refl;
       larger = refl;
       twenty-digits = refl;
+      taken = refl;
+      zero-fault = refl;
+      theta-fault = refl;
+      input-fault = refl;
+      comma-line = refl;
+      heading-line = refl;
+      open-line = refl;
+      missing-line = refl;
+      first-line = refl;
     }

@@ -5,17 +5,17 @@ use mathlib.Core.Path.{_≡_, refl, sym, ap, _∙_}
 use mathlib.Core.Bool.{Bool, true, false, not, cond, _&&_}
 use mathlib.Core.List.{List, [], _∷_, _++_, append-nil}
 use mathlib.Core.Logic.{⊎-elim}
-use Prim.Native.Nat.{ℕ, _+_, _-_, _*_, _^_, _≤_, _<_}
+use Prim.Native.Nat.{ℕ, suc, _+_, _-_, _*_, _^_, _≤_, _<_}
 use native.Mathlib.Omega.{arith}
 use lib.Dec.{ltb, eqb}
 use lib.ListN.{length, getD, length-append, List·getD-append}
 use lib.Seq.{append-snoc}
 use borrow.Author.Tests.{ltb-true, not-true, eqb-false, lt-ltb, ne-eqb}
 use native.Mathlib.Nat.{le-trans, not-le-of-lt, mul-le-mul-right, pow-succ', pow-le-pow-right}
-use Rattle.laws.proofs.Tests.{both, both-left, both-right, fails-left, fails-right, tested, true-not-false, is-false, not-holds}
+use Rattle.laws.proofs.Tests.{both, both-left, both-right, fails-left, tested, true-not-false, is-false, not-holds}
 use Rattle.laws.proofs.BetweenLaws.{within}
 use Rattle.sheet_rules.specs.Limits.{maxDigits}
-use Rattle.sheet_rules.specs.Input.{lineFeed, Lines, inFront, lineInFront, lines, every, digit, leadingZero, valueAfter, value, numeral, allNumerals}
+use Rattle.sheet_rules.specs.Input.{lineFeed, Lines, inFront, lineInFront, lines, every, digit, leadingZero, valueAfter, value, numeral, passing, numeralLines, allNumerals}
 
 -- ---- every
 
@@ -131,26 +131,43 @@ numeral-front p c h n =
       small = omega (arith, m .small, value-snoc p c);
     })
 
--- so bytes that are none, and hold no line feed, are refused with whatever follows
-pub broken : (cs p : List ℕ) → noFeed p ≡ true → 0 < length p → numeral p ≡ false → allNumerals (lines (p ++ cs)) ≡ false
-unfolding every
-broken [] p n h b =
-    ap (λ (l : List ℕ). allNumerals (lines l)) (append-nil p)
-    ∙ ap allNumerals (open-line p n)
-    ∙ fails-right true (eqb (length p) 0) (ne-eqb (length p) 0 (λ e. omega arith))
+-- so bytes that are none, and hold no line feed, begin no line that is a number, whatever follows
+pub broken : (cs p : List ℕ) → noFeed p ≡ true → 0 < length p → numeral p ≡ false → numeralLines (p ++ cs) ≡ 0
+unfolding passing
+broken [] p n h b = ap numeralLines (append-nil p) ∙ ap (λ (ls : Lines). passing numeral (ls .ended)) (open-line p n)
 broken (c ∷ cs) p n h b = ⊎-elim feed (other (broken cs (p ++ (c ∷ [])))) (tested (eqb c lineFeed))
   where
-    feed : eqb c lineFeed ≡ true → allNumerals (lines (p ++ c ∷ cs)) ≡ false
-    feed e = ap allNumerals (ended-line p c cs n e) ∙ fails-left _ _ (fails-left (numeral p) _ b)
+    feed : eqb c lineFeed ≡ true → numeralLines (p ++ c ∷ cs) ≡ 0
+    feed e =
+        ap (λ (ls : Lines). passing numeral (ls .ended)) (ended-line p c cs n e)
+        ∙ ap (λ (t : Bool). cond t (suc (passing numeral (lines cs .ended))) 0) b
 
-    other : (noFeed (p ++ (c ∷ [])) ≡ true → 0 < length (p ++ (c ∷ [])) → numeral (p ++ (c ∷ [])) ≡ false → allNumerals (lines (p ++ (c ∷ []) ++ cs)) ≡ false)
-        → eqb c lineFeed ≡ false → allNumerals (lines (p ++ c ∷ cs)) ≡ false
+    other : (noFeed (p ++ (c ∷ [])) ≡ true → 0 < length (p ++ (c ∷ [])) → numeral (p ++ (c ∷ [])) ≡ false → numeralLines (p ++ (c ∷ []) ++ cs) ≡ 0)
+        → eqb c lineFeed ≡ false → numeralLines (p ++ c ∷ cs) ≡ 0
     other later e =
-        ap (λ (l : List ℕ). allNumerals (lines l)) (sym (append-snoc p c cs))
+        ap numeralLines (sym (append-snoc p c cs))
         ∙ later
         (every-both (λ x. not (eqb x lineFeed)) p (c ∷ []) n (every-one (λ x. not (eqb x lineFeed)) c (not-holds _ e)))
         (omega (arith, h, length-append p (c ∷ [])))
         (is-false _ (λ t. true-not-false (numeral-front p c h t) b))
+
+-- and bytes that begin no such line are not numbers, one a line
+pub no-numerals : (l : List ℕ) → 0 < length l → numeralLines l ≡ 0 → allNumerals (lines l) ≡ false
+unfolding lines every passing numeral
+no-numerals [] h z = absurd (omega arith)
+no-numerals (c ∷ cs) h z = by (eqb c lineFeed) (lines cs .ended) (lines cs .rest) z
+  where
+    none : (t : Bool) (k : ℕ) → cond t (suc k) 0 ≡ 0 → t ≡ false
+    none true k e = absurd (omega (arith, e))
+    none false k e = refl
+
+    front : Bool → List (List ℕ) → List ℕ → Lines
+    front t ended rest = cond t (lineInFront (record { ended = ended; rest = rest })) (inFront c ended rest)
+
+    by : (t : Bool) (ended : List (List ℕ)) (rest : List ℕ) → passing numeral (front t ended rest .ended) ≡ 0 → allNumerals (front t ended rest) ≡ false
+    by true ended rest e = refl
+    by false [] rest e = ne-eqb (suc (length rest)) 0 (λ n. omega (arith, n))
+    by false (l ∷ ls) rest e = fails-left _ _ (fails-left (numeral (c ∷ l)) _ (none (numeral (c ∷ l)) (passing numeral ls) e))
 
 -- a number of several digits reaches the power of its highest place
 pub numeral-least : (l : List ℕ) → numeral l ≡ true → 1 < length l → 10 ^ (length l - 1) ≤ value l

@@ -1,6 +1,6 @@
 -- The claims of specs/Claims.antt, each from its law. Assumes nothing.
 use mathlib.Core.Path.{_≡_, sym, ap, _∙_}
-use mathlib.Core.Bool.{Bool, true, false, cond}
+use mathlib.Core.Bool.{Bool, true, false, cond, not}
 use mathlib.Core.List.{List, _++_}
 use mathlib.Core.Logic.{⊎-elim}
 use Prim.Native.Nat.{ℕ, _+_, _≤_, _<_}
@@ -10,15 +10,19 @@ use lib.Dec.{leb}
 use borrow.Author.Tests.{leb-true, leb-false}
 use lib.ListN.{length, getD, take, drop, length-drop, length-map}
 use lib.Seq.{take-all, length-take-le}
+use Rattle.laws.specs.Refusal.{refusal}
 use Rattle.laws.proofs.Tests.{tested, is-false}
+use Rattle.laws.proofs.RefusalLaws as refusals
+use Rattle.list_rules.specs.Quality.{quality, inputSentences}
+use Rattle.build_rules.specs.Words.{words}
 use Rattle.sheet_rules.specs.Limits.{leastNumbers, mostNumbers, maxInput, maxSheet}
 use Rattle.sheet_rules.specs.Input.{lines, value, asDescribed, numbers}
 use Rattle.sheet_rules.specs.Lines.{refusedLine}
-use Rattle.sheet_rules.specs.Sheet.{numbersSheet, sheet, filled}
+use Rattle.sheet_rules.specs.Sheet.{histogramSheet, numbersSheet, sheetFault, sheet, filled}
 use Rattle.sheet_rules.specs.Claims.{Exam}
 use Rattle.sheet_rules.proofs.TextLaws.{places-some, below-power, reaches-power}
 use Rattle.sheet_rules.proofs.LinesLaws.{described, input-short, read, written}
-use Rattle.sheet_rules.proofs.SheetLaws.{refused-short, list-short, filled-whole}
+use Rattle.sheet_rules.proofs.SheetLaws.{refused-short, list-printed, list-refused, list-short, filled-whole}
 
 -- ---- what is printed, by whether the input is as described
 
@@ -36,7 +40,47 @@ numbers-many input h =
     let d = described input h in
     (omega (arith, d .many .least, length-map (lines input .ended) value), omega (arith, d .many .most, length-map (lines input .ended) value))
 
+-- ---- the number that an input is refused with
+
+pub fault-refused : (input : List ℕ) → asDescribed input ≡ false → sheetFault input ≡ 18
+unfolding sheetFault
+fault-refused input e = refusals.refused _ _ (ap not e)
+
+pub fault-read : (input : List ℕ) → asDescribed input ≡ true → let ns = numbers input in
+    sheetFault input ≡ refusal (inputSentences (drop 3 ns) (getD ns 0 0) (getD ns 1 0) (getD ns 2 0))
+unfolding sheetFault
+fault-read input e = refusals.passed _ _ (ap not e)
+
 -- ---- the claims
+
+refused : (input : List ℕ) → (sheetFault input ≡ 0 → ⊥) → sheet input ≡ refusedLine (sheetFault input)
+unfolding numbersSheet
+refused input h = ⊎-elim read not-read (tested (asDescribed input))
+  where
+    ns : List ℕ
+    ns = numbers input
+
+    read : asDescribed input ≡ true → sheet input ≡ refusedLine (sheetFault input)
+    read t =
+        let f = fault-read input t in
+        sheet-read input t ∙ list-refused (drop 3 ns) (getD ns 0 0) (getD ns 1 0) (getD ns 2 0) (λ z. h (f ∙ z)) ∙ ap refusedLine (sym f)
+
+    not-read : asDescribed input ≡ false → sheet input ≡ refusedLine (sheetFault input)
+    not-read t = sheet-refused input t ∙ ap refusedLine (sym (fault-refused input t))
+
+printed : (input : List ℕ) → sheetFault input ≡ 0 → let ns = numbers input in
+    sheet input ≡ histogramSheet (words (quality (getD ns 0 0) (getD ns 1 0) (getD ns 2 0)) (drop 3 ns))
+unfolding numbersSheet
+printed input z = ⊎-elim read not-read (tested (asDescribed input))
+  where
+    ns : List ℕ
+    ns = numbers input
+
+    read : asDescribed input ≡ true → sheet input ≡ histogramSheet (words (quality (getD ns 0 0) (getD ns 1 0) (getD ns 2 0)) (drop 3 ns))
+    read t = sheet-read input t ∙ list-printed (drop 3 ns) (getD ns 0 0) (getD ns 1 0) (getD ns 2 0) (sym (fault-read input t) ∙ z)
+
+    not-read : asDescribed input ≡ false → sheet input ≡ histogramSheet (words (quality (getD ns 0 0) (getD ns 1 0) (getD ns 2 0)) (drop 3 ns))
+    not-read t = absurd (let e = fault-refused input t in omega (arith, e, z))
 
 long : (input : List ℕ) → maxInput < length input → sheet input ≡ refusedLine 18
 long input h = sheet-refused input (is-false (asDescribed input) (λ d. let s = input-short input d in omega arith))
@@ -76,6 +120,8 @@ exam =
       digit-count = λ n. record { some = places-some n; holds = below-power n; fewest = reaches-power n };
       read = read;
       written = written;
+      refused = refused;
+      printed = printed;
       long = long;
       cut = cut;
       short = short;

@@ -8,7 +8,7 @@ use Prim.Native.Nat.{ℕ, zero, suc, _+_, _*_, _^_, _≤_, _<_}
 use Prim.Native.String.{String}
 use native.Mathlib.Nat.{eq-zero-or-pos}
 use native.Mathlib.Omega.{arith}
-use borrow.Author.Tests.{eqb-true, eq-eqb, ne-eqb, leb-true}
+use borrow.Author.Tests.{eqb-true, eqb-false, eq-eqb, ne-eqb, leb-true}
 use lib.Dec.{leb, eqb}
 use lib.ListN.{length, set, drop, length-append}
 use lib.Seq.{sets}
@@ -191,23 +191,31 @@ refusal-most m (s ∷ ss) h = go (s .holds) (refusal-most m ss (both-right (leb 
     go true i = leb-true (s .number) m (both-left (leb (s .number) m) (upTo m ss) h)
     go false i = i
 
-pub list-short : (fs : List ℕ) (theta qn qd : ℕ) → length fs ≤ maxFrequencies → length (listSheet fs theta qn qd) ≤ maxSheet
-unfolding listSheet
-list-short fs theta qn qd h = ⊎-elim none some (tested (eqb fault 0))
-  where
-    fault : ℕ
-    fault = refusal (inputSentences fs theta qn qd)
+-- its sheet, by whether the builder refuses it
+module _ (fs : List ℕ) (theta qn qd : ℕ) where
+  abbrev fault : ℕ
+  fault = refusal (inputSentences fs theta qn qd)
 
-    chosen : Bool → List ℕ
-    chosen t = cond t (histogramSheet (words (quality theta qn qd) fs)) (refusedLine fault)
+  pub list-printed : fault ≡ 0 → listSheet fs theta qn qd ≡ histogramSheet (words (quality theta qn qd) fs)
+  unfolding listSheet
+  list-printed e = ap (λ (t : Bool). cond t (histogramSheet (words (quality theta qn qd) fs)) (refusedLine fault)) (eq-eqb fault 0 e)
 
-    none : eqb fault 0 ≡ true → length (chosen (eqb fault 0)) ≤ maxSheet
-    none e =
-        let r = room fs theta qn qd h (eqb-true fault 0 e) in
-        omega (arith, ap (λ (t : Bool). length (chosen t)) e, histogram-short (words (quality theta qn qd) fs) r)
+  pub list-refused : (fault ≡ 0 → ⊥) → listSheet fs theta qn qd ≡ refusedLine fault
+  unfolding listSheet
+  list-refused h = ap (λ (t : Bool). cond t (histogramSheet (words (quality theta qn qd) fs)) (refusedLine fault)) (ne-eqb fault 0 h)
 
-    some : eqb fault 0 ≡ false → length (chosen (eqb fault 0)) ≤ maxSheet
-    some e = omega (arith, ap (λ (t : Bool). length (chosen t)) e, refused-short fault (omega (arith, refusal-most 5 (inputSentences fs theta qn qd) refl)) .within)
+  pub list-short : length fs ≤ maxFrequencies → length (listSheet fs theta qn qd) ≤ maxSheet
+  list-short h = ⊎-elim none some (tested (eqb fault 0))
+    where
+      none : eqb fault 0 ≡ true → length (listSheet fs theta qn qd) ≤ maxSheet
+      none t =
+          let e = eqb-true fault 0 t in
+          omega (arith, ap length (list-printed e), histogram-short (words (quality theta qn qd) fs) (room fs theta qn qd h e))
+
+      some : eqb fault 0 ≡ false → length (listSheet fs theta qn qd) ≤ maxSheet
+      some t =
+          let most = refused-short fault (omega (arith, refusal-most 5 (inputSentences fs theta qn qd) refl)) in
+          omega (arith, ap length (list-refused (eqb-false fault 0 t)), most .within)
 
 -- ---- lent bytes
 

@@ -5,12 +5,14 @@ use mathlib.Core.Bool.{true}
 use mathlib.Core.List.{List, [], _∷_, _++_}
 use Prim.Native.Nat.{ℕ, _+_, _-_, _^_, _≤_, _<_}
 use lib.Dec.{ltb}
-use lib.ListN.{length, take, drop}
+use lib.ListN.{length, getD, take, drop}
+use Rattle.list_rules.specs.Quality.{quality}
+use Rattle.build_rules.specs.Words.{words}
 use Rattle.sheet_rules.specs.Limits.{leastNumbers, mostNumbers, maxInput, maxSheet}
 use Rattle.sheet_rules.specs.Text.{places, decimal}
 use Rattle.sheet_rules.specs.Input.{lineFeed, every, asDescribed, numbers}
 use Rattle.sheet_rules.specs.Lines.{refusedLine}
-use Rattle.sheet_rules.specs.Sheet.{sheet, filled}
+use Rattle.sheet_rules.specs.Sheet.{histogramSheet, sheetFault, sheet, filled}
 
 -- numbers, one a line
 unfoldable pub asLines : List ℕ → List ℕ
@@ -30,6 +32,10 @@ pub record Exam : Type 0 where
   pub read : (ns : List ℕ) → every (λ n. ltb n (2 ^ 32)) ns ≡ true → leastNumbers ≤ length ns → length ns ≤ mostNumbers
       → (asDescribed (asLines ns) ≡ true) × (numbers (asLines ns) ≡ ns)
   pub written : (input : List ℕ) → asDescribed input ≡ true → asLines (numbers input) ≡ input
+  -- a refused input has the line of its number alone, and any other the sheet of its histogram
+  pub refused : (input : List ℕ) → (sheetFault input ≡ 0 → ⊥) → sheet input ≡ refusedLine (sheetFault input)
+  pub printed : (input : List ℕ) → sheetFault input ≡ 0 → let ns = numbers input in
+      sheet input ≡ histogramSheet (words (quality (getD ns 0 0) (getD ns 1 0) (getD ns 2 0)) (drop 3 ns))
   -- a longer input is refused with 18 whatever follows, so that reading may stop after one byte more
   pub long : (input : List ℕ) → maxInput < length input → sheet input ≡ refusedLine 18
   pub cut : (input : List ℕ) → sheet (take (maxInput + 1) input) ≡ sheet input

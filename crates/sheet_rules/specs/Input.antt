@@ -2,7 +2,7 @@
 -- Assumes nothing.
 use mathlib.Core.Bool.{Bool, true, not, cond, _&&_}
 use mathlib.Core.List.{List, [], _∷_, map}
-use Prim.Native.Nat.{ℕ, _+_, _-_, _*_, _^_}
+use Prim.Native.Nat.{ℕ, suc, _+_, _-_, _*_, _^_, min}
 use lib.Dec.{ltb, eqb}
 use lib.ListN.{length, getD}
 use Rattle.laws.specs.Between.{between}
@@ -60,6 +60,19 @@ allNumerals ls = every numeral (ls .ended) && eqb (length (ls .rest)) 0
 -- the numbers of the lines
 unfoldable pub numbers : List ℕ → List ℕ
 numbers input = map value (lines input .ended)
+
+-- how many elements pass before the first that does not
+unfoldable pub passing : {A : Type 0} → (A → Bool) → List A → ℕ
+passing p [] = 0
+passing p (x ∷ xs) = cond (p x) (suc (passing p xs)) 0
+
+-- how many lines at the start are numbers that a line feed ends
+abbrev pub numeralLines : List ℕ → ℕ
+numeralLines input = passing numeral (lines input .ended)
+
+-- of an input that is not as described, the line where it stops being so, counted from 1: no number or not ended, else missing or one too many
+abbrev pub faultLine : List ℕ → ℕ
+faultLine input = suc (min (numeralLines input) mostNumbers)
 
 unfoldable pub asDescribed : List ℕ → Bool
 asDescribed input = allNumerals (lines input) && between leastNumbers mostNumbers (length (numbers input))

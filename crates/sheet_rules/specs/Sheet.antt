@@ -1,11 +1,11 @@
 -- What is printed for an input (document 01, "The exam sheet").
 -- Assumes nothing.
-use mathlib.Core.Bool.{cond}
+use mathlib.Core.Bool.{cond, not}
 use mathlib.Core.List.{List, [], _∷_, _++_}
 use Prim.Native.Nat.{ℕ, zero, suc}
 use lib.Dec.{eqb}
 use lib.ListN.{getD, drop}
-use Rattle.laws.specs.Refusal.{refusal}
+use Rattle.laws.specs.Refusal.{Sentence, refusal}
 use Rattle.counts_rules.specs.Total.{totalNumber}
 use Rattle.words_rules.specs.declared.Bucket.{Bucket}
 use Rattle.words_rules.specs.Words.{entries, theta, qn, qd, buckets, start, end}
@@ -45,6 +45,16 @@ listSheet fs theta qn qd =
 -- theta, qn and qd, then the frequencies
 unfoldable pub numbersSheet : List ℕ → List ℕ
 numbersSheet ns = listSheet (drop 3 ns) (getD ns 0 0) (getD ns 1 0) (getD ns 2 0)
+
+-- 18: the input is not as described; then 1 to 5, as the builder tests its numbers
+abbrev pub sheetSentences : List ℕ → List Sentence
+sheetSentences input =
+    let ns = numbers input in
+    record { number = 18; holds = not (asDescribed input) } ∷ inputSentences (drop 3 ns) (getD ns 0 0) (getD ns 1 0) (getD ns 2 0)
+
+-- the number that an input is refused with, 0 if it is not
+unfoldable pub sheetFault : List ℕ → ℕ
+sheetFault input = refusal (sheetSentences input)
 
 -- 18 comes first
 unfoldable pub sheet : List ℕ → List ℕ

@@ -4,8 +4,8 @@ use mathlib.Core.Path.{_≡_}
 use mathlib.Core.Bool.{false}
 use mathlib.Core.List.{[], _∷_, _++_}
 use Rattle.sheet_rules.specs.Text.{ascii}
-use Rattle.sheet_rules.specs.Input.{asDescribed, numbers}
-use Rattle.sheet_rules.specs.Sheet.{sheet}
+use Rattle.sheet_rules.specs.Input.{asDescribed, numbers, faultLine}
+use Rattle.sheet_rules.specs.Sheet.{sheetFault, sheet}
 
 pub record Worked : Type 0 where
   pub pair :
@@ -31,3 +31,13 @@ pub record Worked : Type 0 where
   pub largest : numbers (ascii "1\n3\n2\n4294967295\n") ≡ 1 ∷ 3 ∷ 2 ∷ 4294967295 ∷ []
   pub larger : asDescribed (ascii "1\n3\n2\n4294967296\n") ≡ false
   pub twenty-digits : asDescribed (ascii "1\n3\n2\n18446744073709551617\n") ≡ false
+  -- what an input is refused with, and where it stops being as described
+  pub taken : sheetFault (ascii "1\n3\n2\n1\n100\n") ≡ 0
+  pub zero-fault : sheetFault (ascii "0\n0\n0\n0\n") ≡ 2
+  pub theta-fault : sheetFault (ascii "0\n0\n0\n1\n") ≡ 4
+  pub input-fault : sheetFault (ascii "1\n3\n2\n1,000\n") ≡ 18
+  pub comma-line : faultLine (ascii "1\n3\n2\n1,000\n5\n") ≡ 4
+  pub heading-line : faultLine (ascii "theta\n1\n3\n2\n1\n") ≡ 1
+  pub open-line : faultLine (ascii "1\n3\n2\n1\n100") ≡ 5
+  pub missing-line : faultLine (ascii "1\n3\n2\n") ≡ 4
+  pub first-line : faultLine [] ≡ 1

@@ -7,13 +7,13 @@ use mathlib.Core.Logic.{⊎-elim}
 use Prim.Native.Nat.{ℕ, zero, suc, _+_, _-_, _≤_, _<_}
 use native.Mathlib.Nat.{zero-add, suc-add}
 use native.Mathlib.Omega.{arith}
-use borrow.Author.Tests.{eqb-true, eqb-false, eq-eqb, ne-eqb, le-ltb}
+use borrow.Author.Tests.{eqb-true, eqb-false, eq-eqb, le-ltb}
 use lib.Dec.{eqb, ltb}
 use lib.ListN.{length, getD, take, drop}
 use lib.Seq.{take-at, take-nil, getD-take}
 use Rattle.laws.specs.Refusal.{Sentence, refusal}
 use Rattle.laws.specs.Reply.{Reply, answered, refused}
-use Rattle.laws.proofs.Tests.{tested}
+use Rattle.laws.proofs.Tests.{tested, is-false}
 use Rattle.laws.proofs.PaddedLaws.{padded-front}
 use Rattle.laws.proofs.RefusalLaws.{numbered, append-refused, append-passed}
 use Rattle.words_rules.proofs.Proved.{histogram}
@@ -21,15 +21,17 @@ use Rattle.build_rules.specs.Words.{words}
 use Rattle.list_rules.specs.Quality.{quality, inputSentences}
 use Rattle.build_rules.specs.Building.{buildSentences, buildFault, buildReply, written}
 use Rattle.sheet_rules.specs.Limits.{maxFrequencies, leastNumbers, mostNumbers, maxSheetWords}
-use Rattle.sheet_rules.specs.Input.{asDescribed, numbers}
+use Rattle.sheet_rules.specs.Input.{asDescribed, numbers, faultLine}
 use Rattle.sheet_rules.specs.Lines.{refusedLine}
-use Rattle.sheet_rules.specs.Sheet.{histogramSheet, listSheet, numbersSheet, sheet, filled}
+use Rattle.sheet_rules.specs.Sheet.{histogramSheet, listSheet, numbersSheet, sheetFault, sheet, filled}
 use Rattle.sheet_rules.specs.Private.Room.{Roomy}
-use Rattle.sheet_rules.proofs.SheetLaws.{room, refusal-most, sets-filled}
-use Rattle.sheet_rules.proofs.Proved.{sheet-refused, sheet-read, numbers-many}
+use Rattle.sheet_rules.proofs.SheetLaws.{room, refusal-most, list-printed, list-refused, sets-filled}
+use Rattle.sheet_rules.proofs.Proved.{sheet-refused, sheet-read, numbers-many, fault-refused, fault-read}
 use Rattle.sheet_input.specs.declared.Numbers.{Numbers}
 use Rattle.sheet_input.specs.Numbers.{numbersOf, inputNumbers}
-use Rattle.sheet_text.specs.Private.Printing.{Put}
+use Rattle.sheet_text.specs.declared.Printed.{Printed}
+use Rattle.sheet_text.specs.Printed.{printedOf}
+use Rattle.sheet_text.specs.Private.Printing.{Answered}
 
 -- ---- the builder's answer
 
@@ -85,20 +87,26 @@ module _ (fs : List ℕ) (theta qn qd : ℕ) (short : length fs ≤ maxFrequenci
       ap (λ (t : Bool). cond t (answered (length ws)) (refused (buildFault fs theta qn qd maxSheetWords)) .value)
       (eq-eqb (buildFault fs theta qn qd maxSheetWords) 0 (fault-is ∙ e))
 
-  pub refused-number : (number : ℕ) → refused number ≡ buildReply fs theta qn qd maxSheetWords → number ≤ 5
-  refused-number number e = omega (arith, ap (λ (r : Reply). r .refusal) e ∙ reply-refusal, refusal-most 5 (inputSentences fs theta qn qd) refl)
+  -- it is refused with the number of the fault
+  module _ (number : ℕ) (e : refused number ≡ buildReply fs theta qn qd maxSheetWords) where
+    pub refused-fault : number ≡ fault
+    refused-fault = ap (λ (r : Reply). r .refusal) e ∙ reply-refusal
 
-  -- it is refused with the number that is printed
-  pub refused-sheet : (number : ℕ) → refused number ≡ buildReply fs theta qn qd maxSheetWords → refusedLine number ≡ listSheet fs theta qn qd
-  unfolding listSheet
-  refused-sheet number e =
-      let same : number ≡ fault = ap (λ (r : Reply). r .refusal) e ∙ reply-refusal in
-      let some-words : fault ≡ 0 → 4 ≤ length ws = λ z. let r = room fs theta qn qd short z in omega (arith, histogram .limits ws (r .readable) .words) in
-      let not-zero : fault ≡ 0 → ⊥ = λ z. omega (arith, some-words z, ap (λ (r : Reply). r .value) e ∙ reply-value z) in
-      ap refusedLine same ∙ ap (λ (t : Bool). cond t (histogramSheet ws) (refusedLine fault)) (sym (ne-eqb fault 0 not-zero))
+    pub refused-number : number ≤ 5
+    refused-number = omega (arith, refused-fault, refusal-most 5 (inputSentences fs theta qn qd) refl)
+
+    -- which is not 0: with no fault there are words
+    is-fault : fault ≡ 0 → ⊥
+    is-fault z =
+        let r = room fs theta qn qd short z in
+        let none : 0 ≡ length ws = ap (λ (r : Reply). r .value) e ∙ reply-value z in
+        omega (arith, histogram .limits ws (r .readable) .words, none)
+
+    pub refused-sheet : refusedLine number ≡ listSheet fs theta qn qd
+    refused-sheet = ap refusedLine refused-fault ∙ sym (list-refused fs theta qn qd is-fault)
 
   module _ (n : ℕ) (e : answered n ≡ buildReply fs theta qn qd maxSheetWords) where
-    no-fault : fault ≡ 0
+    pub no-fault : fault ≡ 0
     no-fault = sym (ap (λ (r : Reply). r .refusal) e ∙ reply-refusal)
 
     count-is : n ≡ length ws
@@ -118,8 +126,22 @@ module _ (fs : List ℕ) (theta qn qd : ℕ) (short : length fs ≤ maxFrequenci
     words-room = room fs theta qn qd short no-fault
 
     pub built-sheet : histogramSheet (words (quality theta qn qd) fs) ≡ listSheet fs theta qn qd
-    unfolding listSheet
-    built-sheet = ap (λ (t : Bool). cond t (histogramSheet ws) (refusedLine fault)) (sym (eq-eqb fault 0 no-fault))
+    built-sheet = sym (list-printed fs theta qn qd no-fault)
+
+-- ---- the lent bytes
+
+-- what is answered and lent, once a text is put that is the sheet, with its refusal and line
+answer-is : (input : List ℕ) {text old new : List ℕ} {number line : ℕ} (r : Printed) → Answered old new r number line text
+    → number ≡ sheetFault input → line ≡ cond (asDescribed input) 0 (faultLine input) → text ≡ sheet input
+    → (r ≡ printedOf input) × (new ≡ filled old (sheet input))
+unfolding printedOf
+answer-is input {text} {old} r p n l t = (
+  ap (λ (k : ℕ). record { refusal = k; line = r .line; length = r .length }) (p .refused ∙ n)
+      ∙ ap (λ (k : ℕ). record { refusal = sheetFault input; line = k; length = r .length }) (p .at-line ∙ l)
+      ∙ ap (λ (k : ℕ). record { refusal = sheetFault input; line = cond (asDescribed input) 0 (faultLine input); length = k })
+      (omega (arith, p .text-put .ends, ap length t)),
+  p .text-put .bytes ∙ sets-filled old text ∙ ap (filled old) t,
+)
 
 -- ---- the numbers of an input
 
@@ -129,9 +151,9 @@ part-of-front (suc k) m [] = take-nil m ∙ sym (ap (drop (suc k)) (take-nil (su
 part-of-front (suc k) m (x ∷ l) = part-of-front k m l ∙ ap (λ (n : ℕ). drop (suc k) (take n (x ∷ l))) (sym (suc-add k m))
 
 module _ (input : List ℕ) (r : Numbers) (e : r ≡ inputNumbers input) where
-  by-described : (t : Bool) → asDescribed input ≡ t → r ≡ cond t (numbersOf 0 (numbers input)) (numbersOf 18 [])
+  by-described : (t : Bool) → asDescribed input ≡ t → r ≡ cond t (numbersOf 0 0 (numbers input)) (numbersOf 18 (faultLine input) [])
   unfolding inputNumbers
-  by-described t d = e ∙ ap (λ (x : Bool). cond x (numbersOf 0 (numbers input)) (numbersOf 18 [])) d
+  by-described t d = e ∙ ap (λ (x : Bool). cond x (numbersOf 0 0 (numbers input)) (numbersOf 18 (faultLine input) [])) d
 
   pub refused-small : r .refusal ≤ 18
   refused-small = ⊎-elim described not (tested (asDescribed input))
@@ -142,14 +164,22 @@ module _ (input : List ℕ) (r : Numbers) (e : r ≡ inputNumbers input) where
       not : asDescribed input ≡ false → r .refusal ≤ 18
       not d = omega (arith, ap (λ (x : Numbers). x .refusal) (by-described false d))
 
-  pub refused-input : (r .refusal ≡ 0 → ⊥) → refusedLine (r .refusal) ≡ sheet input
-  refused-input z = ⊎-elim described not (tested (asDescribed input))
-    where
-      described : asDescribed input ≡ true → refusedLine (r .refusal) ≡ sheet input
-      described d = absurd (z (ap (λ (x : Numbers). x .refusal) (by-described true d)))
+  module _ (z : r .refusal ≡ 0 → ⊥) where
+    not-described : asDescribed input ≡ false
+    not-described = is-false (asDescribed input) (λ d. z (ap (λ (x : Numbers). x .refusal) (by-described true d)))
 
-      not : asDescribed input ≡ false → refusedLine (r .refusal) ≡ sheet input
-      not d = ap refusedLine (ap (λ (x : Numbers). x .refusal) (by-described false d)) ∙ sym (sheet-refused input d)
+    is-18 : r .refusal ≡ 18
+    is-18 = ap (λ (x : Numbers). x .refusal) (by-described false not-described)
+
+    -- the line of the refusal is all that is printed
+    pub refused-all : (old new : List ℕ) (p : Printed) → Answered old new p (r .refusal) (r .line) (refusedLine (r .refusal))
+        → (p ≡ printedOf input) × (new ≡ filled old (sheet input))
+    refused-all old new p a =
+        let line : r .line ≡ faultLine input = ap (λ (x : Numbers). x .line) (by-described false not-described) in
+        answer-is input p a
+        (is-18 ∙ sym (fault-refused input not-described))
+        (line ∙ ap (λ (t : Bool). cond t 0 (faultLine input)) (sym not-described))
+        (ap refusedLine is-18 ∙ sym (sheet-refused input not-described))
 
   module _ (z : r .refusal ≡ 0) where
     described : asDescribed input ≡ true
@@ -172,18 +202,24 @@ module _ (input : List ℕ) (r : Numbers) (e : r ≡ inputNumbers input) where
     number-at : (k : ℕ) → k < leastNumbers → getD (r .values) k 0 ≡ getD (numbers input) k 0
     number-at k h = sym (getD-take (r .count) (r .values) k 0 (omega (arith, count-many .0))) ∙ ap (λ (l : List ℕ). getD l k 0) numbers-are
 
-    pub read-sheet : listSheet (take (r .count - 3) (drop 3 (r .values))) (getD (r .values) 0 0) (getD (r .values) 1 0) (getD (r .values) 2 0) ≡ sheet input
+    -- what depends on the list, theta, qn and qd is that of the numbers
+    by-numbers : {A : Type 0} (f : List ℕ → ℕ → ℕ → ℕ → A) → let ns = numbers input in
+        f (take (r .count - 3) (drop 3 (r .values))) (getD (r .values) 0 0) (getD (r .values) 1 0) (getD (r .values) 2 0)
+        ≡ f (drop 3 ns) (getD ns 0 0) (getD ns 1 0) (getD ns 2 0)
+    by-numbers f =
+        let v = r .values in
+        let ns = numbers input in
+        ap (λ (l : List ℕ). f l (getD v 0 0) (getD v 1 0) (getD v 2 0)) frequencies
+        ∙ ap (λ (x : ℕ). f (drop 3 ns) x (getD v 1 0) (getD v 2 0)) (number-at 0 (omega arith))
+        ∙ ap (λ (x : ℕ). f (drop 3 ns) (getD ns 0 0) x (getD v 2 0)) (number-at 1 (omega arith))
+        ∙ ap (f (drop 3 ns) (getD ns 0 0) (getD ns 1 0)) (number-at 2 (omega arith))
+
+    pub read-all : let fs = take (r .count - 3) (drop 3 (r .values)) in let v : ℕ → ℕ = λ i. getD (r .values) i 0 in
+        (old new : List ℕ) (p : Printed) → Answered old new p (refusal (inputSentences fs (v 0) (v 1) (v 2))) 0 (listSheet fs (v 0) (v 1) (v 2))
+        → (p ≡ printedOf input) × (new ≡ filled old (sheet input))
     unfolding numbersSheet
-    read-sheet =
-        ap (λ (l : List ℕ). listSheet l (getD (r .values) 0 0) (getD (r .values) 1 0) (getD (r .values) 2 0)) frequencies
-        ∙ ap (λ (x : ℕ). listSheet (drop 3 (numbers input)) x (getD (r .values) 1 0) (getD (r .values) 2 0)) (number-at 0 (omega arith))
-        ∙ ap (λ (x : ℕ). listSheet (drop 3 (numbers input)) (getD (numbers input) 0 0) x (getD (r .values) 2 0)) (number-at 1 (omega arith))
-        ∙ ap (listSheet (drop 3 (numbers input)) (getD (numbers input) 0 0) (getD (numbers input) 1 0)) (number-at 2 (omega arith))
-        ∙ sym (sheet-read input described)
-
--- ---- the lent bytes
-
-pub put-sheet : (input text old new : List ℕ) (n : ℕ) → text ≡ sheet input → Put old new 0 n text
-    → (n ≡ length (sheet input)) × (new ≡ filled old (sheet input))
-put-sheet input text old new n e p =
-    (omega (arith, p .ends, ap length e), p .bytes ∙ sets-filled old text ∙ ap (filled old) e)
+    read-all old new p a =
+        answer-is input p a
+        (by-numbers (λ (fs : List ℕ) (theta qn qd : ℕ). refusal (inputSentences fs theta qn qd)) ∙ sym (fault-read input described))
+        (ap (λ (t : Bool). cond t 0 (faultLine input)) (sym described))
+        (by-numbers listSheet ∙ sym (sheet-read input described))

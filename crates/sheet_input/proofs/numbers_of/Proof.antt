@@ -27,7 +27,7 @@ returns c =
     let a = c .before .before .before .before .before .before .before .args in
     let l = c .before .before .before .before .before .loop in
     let broken = subst (LineAt (a .input .now) (l .start)) (c .before .enum-told .given .1) (c .before .before .before .line-at .ensures) in
-    refused-numbers (a .input .now) (c .refused .result) (c .refused .ensures) (broken-line (a .input .now) (l .values) (l .n) (l .start) (l .inv) broken)
+    refused-numbers (a .input .now) (c .refused .result) _ (c .refused .ensures) (broken-line (a .input .now) (l .values) (l .n) (l .start) (l .inv) (omega arith) broken)
 
 returns-2 : tie.Need-returns-2 Inv-loop μ-loop
 returns-2 c =
@@ -35,7 +35,7 @@ returns-2 c =
     let l = c .before .before .before .before .before .before .before .loop in
     let v = c .before .before .before .value .given .0 in
     let stepped = subst (LineAt (a .input .now) (l .start)) (c .before .before .before .value .given .1) (c .before .before .before .before .before .line-at .ensures) in
-    refused-numbers (a .input .now) (c .refused2 .result) (c .refused2 .ensures)
+    refused-numbers (a .input .now) (c .refused2 .result) _ (c .refused2 .ensures)
     (too-many (a .input .now) (l .values) (l .n) (l .start) (l .inv) (v .0) (v .1 .0) (omega arith) stepped)
 
 array-write-values : tie.Need-array-write-values Inv-loop μ-loop
@@ -62,7 +62,7 @@ returns-3 : tie.Need-returns-3 Inv-loop μ-loop
 returns-3 c =
     let a = c .before .before .before .before .before .args in
     let l = c .before .before .before .loop in
-    refused-numbers (a .input .now) (c .refused3 .result) (c .refused3 .ensures)
+    refused-numbers (a .input .now) (c .refused3 .result) _ (c .refused3 .ensures)
     (too-few (a .input .now) (l .values) (l .n) (l .start) (l .inv) (omega arith) (omega arith))
 
 returns-4 : tie.Need-returns-4 Inv-loop μ-loop
@@ -81,8 +81,10 @@ numbers-of-spec =
     line-at-requires
     (λ c. search needs)
     (λ c. search needs)
+    (λ c. search needs)
     (λ c κs. search needs)
     returns
+    (λ c. search needs)
     (λ c κs. search needs)
     returns-2
     (λ c. search needs)
@@ -90,6 +92,7 @@ numbers-of-spec =
     (λ c. search needs)
     loop-less
     loop-again
+    (λ c. search needs)
     (λ c κs. search needs)
     returns-3
     returns-4)

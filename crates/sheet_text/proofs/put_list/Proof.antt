@@ -10,8 +10,7 @@ use Rattle.sheet_rules.specs.Limits.{maxSheetWords}
 use Rattle.sheet_rules.specs.Private.Room.{Roomy}
 use Rattle.sheet_rules.specs.Sheet.{histogramSheet}
 use Rattle.sheet_text.specs.Private.Printing.{Put}
-use Rattle.sheet_text.proofs.PrintLaws.{put-line, refused-room}
-use Rattle.sheet_text.proofs.ListLaws.{refused-number, refused-sheet, count-room, words-are, words-room, built-sheet}
+use Rattle.sheet_text.proofs.ListLaws.{refused-fault, refused-number, refused-sheet, no-fault, count-room, words-are, words-room, built-sheet}
 use Rattle.sheet_text.proofs.put_list.Statement.{statement}
 use Rattle.sheet_text.proofs.put_list.Tie as tie
 
@@ -39,32 +38,41 @@ put-histogram-requires c κs =
     subst⁻¹ Roomy (words-are (s .args .freqs .now) (s .args .theta) (s .args .qn) (s .args .qd) (s .pre) _ e _ _ refl (b .ensures .1 .1))
     (words-room (s .args .freqs .now) (s .args .theta) (s .args .qn) (s .args .qd) (s .pre) _ e)
 
-put-requires : tie.Need-put-requires
-put-requires c κs =
-    let s = c .before .before .before .before .before .before .before .before .before in
-    let b = c .before .before .before .before .before .before .build in
-    let e = ap builtReply (sym (c .before .before .before .built2 .given .1)) ∙ b .ensures .0 in
-    let l = c .before .refused-line in
-    refused-room (l .result) _ (l .ensures) (omega (arith, refused-number (s .args .freqs .now) (s .args .theta) (s .args .qn) (s .args .qd) (s .pre) _ e))
+put-refused-requires : tie.Need-put-refused-requires
+put-refused-requires c κs =
+    let s = c .before .before .before .before .before .before .before .before in
+    let b = c .before .before .before .before .before .build in
+    let e = ap builtReply (sym (c .before .before .built2 .given .1)) ∙ b .ensures .0 in
+    omega (arith, refused-number (s .args .freqs .now) (s .args .theta) (s .args .qn) (s .args .qd) (s .pre) _ e)
 
 returns : tie.Need-returns
 returns c =
     let s = c .before .before .before .before .before .before .before .before .before .before in
     let b = c .before .before .before .before .before .before .before .build in
     let e = ap builtReply (sym (c .before .before .before .before .built .given .1)) ∙ b .ensures .0 in
-    subst (Put (s .args .out .now) _ 0 (c .put-histogram .result))
-    (ap histogramSheet (words-are (s .args .freqs .now) (s .args .theta) (s .args .qn) (s .args .qd) (s .pre) _ e _ _ refl (b .ensures .1 .1))
-    ∙ built-sheet (s .args .freqs .now) (s .args .theta) (s .args .qn) (s .args .qd) (s .pre) _ e)
-    (c .put-histogram .ensures)
+    record {
+      refused = sym (no-fault (s .args .freqs .now) (s .args .theta) (s .args .qn) (s .args .qd) (s .pre) _ e);
+      at-line = refl;
+      text-put =
+          subst (Put (s .args .out .now) _ 0 (c .put-histogram .result))
+          (ap histogramSheet (words-are (s .args .freqs .now) (s .args .theta) (s .args .qn) (s .args .qd) (s .pre) _ e _ _ refl (b .ensures .1 .1))
+          ∙ built-sheet (s .args .freqs .now) (s .args .theta) (s .args .qn) (s .args .qd) (s .pre) _ e)
+          (c .put-histogram .ensures);
+    }
 
 returns-2 : tie.Need-returns-2
 returns-2 c =
-    let s = c .before .before .before .before .before .before .before .before .before .before in
-    let b = c .before .before .before .before .before .before .before .build in
-    let e = ap builtReply (sym (c .before .before .before .before .built2 .given .1)) ∙ b .ensures .0 in
-    let l = c .before .before .refused-line in
-    subst (Put (s .args .out .now) _ 0 (c .put .result)) (refused-sheet (s .args .freqs .now) (s .args .theta) (s .args .qn) (s .args .qd) (s .pre) _ e)
-    (put-line (l .result) _ (l .ensures) (c .put .ensures))
+    let s = c .before .before .before .before .before .before .before .before .before in
+    let b = c .before .before .before .before .before .before .build in
+    let e = ap builtReply (sym (c .before .before .before .built2 .given .1)) ∙ b .ensures .0 in
+    let l = c .put-refused in
+    record {
+      refused = l .ensures .refused ∙ refused-fault (s .args .freqs .now) (s .args .theta) (s .args .qn) (s .args .qd) (s .pre) _ e;
+      at-line = l .ensures .at-line;
+      text-put =
+          subst (Put (s .args .out .now) _ 0 (l .result .length)) (refused-sheet (s .args .freqs .now) (s .args .theta) (s .args .qn) (s .args .qd) (s .pre) _ e)
+          (l .ensures .text-put);
+    }
 
 pub put-list-spec : {M : Type 1} → statement M
 put-list-spec =
@@ -77,7 +85,6 @@ put-list-spec =
     slice-aggregate-put-histogram
     put-histogram-requires
     (λ c. search needs)
-    (λ c κs. search needs)
-    put-requires
+    put-refused-requires
     returns
     returns-2)

@@ -7,25 +7,21 @@ use Prim.Native.Nat.{_-_}
 use lib.ListN.{length, drop, length-drop}
 use lib.Seq.{length-take-le}
 use Rattle.sheet_rules.specs.Limits.{mostNumbers}
-use Rattle.sheet_text.proofs.PrintLaws.{put-line, refused-room}
-use Rattle.sheet_text.proofs.ListLaws.{refused-small, refused-input, count-many, read-sheet, put-sheet}
+use Rattle.sheet_text.proofs.ListLaws.{refused-small, refused-all, count-many, read-all}
 use Rattle.sheet_text.proofs.put_sheet.Statement.{statement}
 use Rattle.sheet_text.proofs.put_sheet.Tie as tie
 
-put-requires : tie.Need-put-requires
-put-requires c κs =
-    let a = c .before .before .before .before .before .before .args in
-    let r = c .before .before .before .before .numbers-of in
-    let l = c .before .refused-line in
-    refused-room (l .result) _ (l .ensures) (refused-small (a .input .now) (r .result) (r .ensures))
+put-refused-requires : tie.Need-put-refused-requires
+put-refused-requires c κs =
+    let r = c .before .before .before .numbers-of in
+    refused-small _ (r .result) (r .ensures)
 
 returns : tie.Need-returns
 returns c =
-    let a = c .before .before .before .before .before .before .before .args in
-    let r = c .before .before .before .before .before .numbers-of in
-    let l = c .before .before .refused-line in
-    put-sheet (a .input .now) _ (a .out .now) _ (c .put .result) (refused-input (a .input .now) (r .result) (r .ensures) (λ z. omega arith))
-    (put-line (l .result) _ (l .ensures) (c .put .ensures))
+    let a = c .before .before .before .before .before .before .args in
+    let r = c .before .before .before .before .numbers-of in
+    let l = c .put-refused in
+    refused-all (a .input .now) (r .result) (r .ensures) (λ z. omega arith) (a .out .now) _ (l .result) (l .ensures)
 
 array-read-theta : tie.Need-array-read-theta
 array-read-theta c = search needs
@@ -67,15 +63,15 @@ returns-2 : tie.Need-returns-2
 returns-2 c =
     let a = c .before .before .before .before .before .before .before .before .before .args in
     let r = c .before .before .before .before .before .before .before .numbers-of in
-    put-sheet (a .input .now) _ (a .out .now) _ (c .put-list .result) (read-sheet (a .input .now) (r .result) (r .ensures) (omega arith)) (c .put-list .ensures)
+    let l = c .put-list in
+    read-all (a .input .now) (r .result) (r .ensures) (omega arith) (a .out .now) _ (l .result) (l .ensures)
 
 pub put-sheet-spec : {M : Type 1} → statement M
 put-sheet-spec =
     tie.close
     (tie.spec
     (λ c κs. search needs)
-    (λ c κs. search needs)
-    put-requires
+    put-refused-requires
     returns
     array-read-theta
     array-read-qn

@@ -97,7 +97,7 @@ returns-6 : tie.Need-returns-6 Inv-loop μ-loop
 returns-6 c =
     let a = c .before .before .before .args in
     let l = c .before .loop in
-    not-ended (a .input .now) (a .start) (l .i) (l .value) (l .inv) (omega arith) (omega arith)
+    not-ended (a .input .now) (a .start) (l .i) (l .value) (l .inv) (omega arith)
 
 pub line-at-spec : {M : Type 1} → statement M
 line-at-spec =
