@@ -2,10 +2,30 @@
 
 use crate::list::Bound;
 use crate::program::*;
+use std::io::{ErrorKind, Write};
+use std::process::{Command, Stdio};
 
-/// The program that answers by the linked functions.
+/// The program that answers by the linked functions, and its listing program's path where that is run.
 #[derive(Clone, Copy, Debug)]
-pub struct Linked;
+pub struct Linked<'a> {
+    pub listing_program: Option<&'a str>,
+}
+
+/// Runs a program on an input, which the pipe holds, so that nothing waits for its output meanwhile.
+fn run(path: &str, input: &[u8]) -> std::io::Result<Listing> {
+    let mut command = Command::new(path);
+    command.stdin(Stdio::piped()).stdout(Stdio::piped()).stderr(Stdio::piped());
+    let mut child = command.spawn()?;
+    let written = child.stdin.take().expect("a pipe").write_all(input);
+    let output = child.wait_with_output()?;
+    match written {
+        // It reads no more than it needs.
+        Err(error) if error.kind() != ErrorKind::BrokenPipe => return Err(error),
+        _ if !output.status.success() => return Err(std::io::Error::other(output.status.to_string())),
+        _ => {}
+    }
+    Ok(Listing { printed: output.stdout, explained: !output.stderr.is_empty() })
+}
 
 extern "C" {
     fn qh_class_of(count: u32) -> QhCoded;
@@ -29,7 +49,7 @@ extern "C" {
 
 // SAFETY of each call: plain numbers, or pointers and lengths of whole slices that outlive
 // the call, which is all that the interface asks for.
-impl Program for Linked {
+impl Program for Linked<'_> {
     fn class_of(&self, count: u32) -> QhCoded {
         unsafe { qh_class_of(count) }
     }
@@ -67,5 +87,10 @@ impl Program for Linked {
 
     fn sheet(&self, input: &[u8], lent: &mut Sheet) -> usize {
         unsafe { qh_sheet(input.as_ptr(), input.len(), lent.as_mut_ptr()) }
+    }
+
+    fn listing(&self, input: &[u8]) -> Listing {
+        let path = self.listing_program.expect("a listing program is given");
+        run(path, input).unwrap_or_else(|error| panic!("{path}: {error}"))
     }
 }

@@ -55,6 +55,13 @@ pub const SHEET_BYTES: usize = 163_840;
 
 pub type Sheet = [u8; SHEET_BYTES];
 
+/// What the listing program prints, and whether it says anything on standard error.
+#[derive(Clone, Debug, PartialEq, Eq)]
+pub struct Listing {
+    pub printed: Vec<u8>,
+    pub explained: bool,
+}
+
 pub trait Program {
     fn class_of(&self, count: u32) -> QhCoded;
     fn number_of_class(&self, class: u32) -> QhCoded;
@@ -65,6 +72,15 @@ pub trait Program {
     fn estimate(&self, words: &[u32], x: u32, y: u32) -> QhEstimate;
     fn find(&self, words: &[u32], entry: u32) -> QhFound;
     fn sheet(&self, input: &[u8], lent: &mut Sheet) -> usize;
+
+    /// The listing program run on an input. It prints the bytes of a sheet, and explains a refusal.
+    fn listing(&self, input: &[u8]) -> Listing {
+        let mut lent = [0; SHEET_BYTES];
+        let length = self.sheet(input, &mut lent);
+        let printed = lent[..length].to_vec();
+        let explained = printed.starts_with(b"refused");
+        Listing { printed, explained }
+    }
 }
 
 impl From<Result<u32, u32>> for QhCoded {

@@ -19,7 +19,7 @@ fn main() -> ExitCode {
     let real: Result<Vec<List>, String> = std::env::args().skip(1).map(|path| list(&path)).collect();
     match real {
         Ok(real) => {
-            run(&Linked, real);
+            run(&Linked { listing_program: None }, real);
             ExitCode::SUCCESS
         }
         Err(text) => {

@@ -1,6 +1,6 @@
-//! Compares the linked program with the reference on generated lists and on those given.
+//! Compares the linked program and its listing program with the reference, on generated lists and on those given.
 //!
-//! compare SEED LIST.freq ...
+//! compare SEED SHEET LIST.freq ...
 
 use reference::compare::{Comparison, Volume};
 use reference::linked::Linked;
@@ -16,14 +16,15 @@ fn numbers(path: &str) -> Result<Vec<u32>, String> {
 
 fn compare() -> Result<bool, String> {
     let arguments: Vec<String> = std::env::args().skip(1).collect();
-    let [seed, paths @ ..] = &arguments[..] else {
-        return Err("compare SEED LIST.freq ...".to_string());
+    let [seed, sheet, paths @ ..] = &arguments[..] else {
+        return Err("compare SEED SHEET LIST.freq ...".to_string());
     };
     let seed: u64 = seed.parse().map_err(|error| format!("{seed}: {error}"))?;
     println!("seed {seed}, the linked program against the reference");
     let real: Result<Vec<Vec<u32>>, String> = paths.iter().map(|path| numbers(path)).collect();
     let mut out = std::io::stdout();
-    Ok(Comparison::new(&Linked, Volume::FULL, seed, real?, &mut out).run())
+    let linked = Linked { listing_program: Some(sheet) };
+    Ok(Comparison::new(&linked, Volume::FULL, seed, real?, &mut out).run())
 }
 
 fn main() -> ExitCode {

@@ -149,6 +149,17 @@ impl Comparison<'_> {
             mismatch(&input, expected, got) + &difference(&right, &other)
         });
         self.note(group, text);
+        self.listing(input);
+    }
+
+    fn listing(&mut self, input: &[u8]) {
+        let (expected, got) = (REFERENCE.listing(input), self.program.listing(input));
+        let differs = expected != got;
+        let text = differs.then(|| {
+            let input = shortened(input.escape_ascii().to_string());
+            mismatch(&input, expected.explained, got.explained) + &difference(&expected.printed, &got.printed)
+        });
+        self.note(Group::SheetProgram, text);
     }
 
     /// Builds by some of the reference's ways, which must agree.

@@ -58,6 +58,7 @@ groups! {
     FindReal: "find: real lists",
     SheetGood: "sheet: good input",
     SheetDamaged: "sheet: damaged input",
+    SheetProgram: "sheet: what the listing program prints",
     DemandBuilt: "demand 3: built histograms",
     DemandForeign: "demand 3: foreign histograms",
     DemandDirected: "demand 3: directed lists",
