@@ -51,10 +51,10 @@ static void counts(void) {
     coded("the code of 1000", qh_code_of_total(1000), (QhCoded){.value = 4003});
     coded("the number of code 4003", qh_number_of_total(4003), (QhCoded){.value = 1003});
     /* its sentences 16 and 17 */
-    coded("the class of 0", qh_class_of(0), (QhCoded){.refusal = 16});
-    coded("the number of class 2", qh_number_of_class(2), (QhCoded){.refusal = 17});
-    coded("the code of 1,073,741,824", qh_code_of_total(1073741824), (QhCoded){.refusal = 16});
-    coded("the number of code 2072", qh_number_of_total(2072), (QhCoded){.refusal = 17});
+    coded("the class of 0", qh_class_of(0), (QhCoded){.refusal = QH_REFUSED_COUNT});
+    coded("the number of class 2", qh_number_of_class(2), (QhCoded){.refusal = QH_REFUSED_READING});
+    coded("the code of 1,073,741,824", qh_code_of_total(1073741824), (QhCoded){.refusal = QH_REFUSED_COUNT});
+    coded("the number of code 2072", qh_number_of_total(2072), (QhCoded){.refusal = QH_REFUSED_READING});
 }
 
 static uint32_t out[16];
@@ -78,15 +78,21 @@ static void builds(void) {
     const uint32_t turns[] = {1, 100, 1, 100, 1, 100, 1, 100, 1};
     const uint32_t of_turns[] = {9, 1, 0xC02, 2, 0x40000201, 0x81381381, 0x8E04ECA2, 0xC0040201, 0xC0040201,
                                  0x40002201, 0x81000000, 0x80000020, 0xC0000000, 0xC0000000};
+    const uint32_t zero[] = {1, 0}, large[] = {1073741823, 1};
     memset(out, MARK, sizeof out);
     built("10, 10, 10, 10", qh_build(LIST(four_tens), 1, 3, 2, LIST(out)), (QhBuilt){.words = 9}, tens);
     built("4, 1, 4, 1", qh_build(LIST(fours), 7, 5, 4, LIST(out)), (QhBuilt){.words = 9}, of_fours);
     built("nine entries", qh_build(LIST(turns), 1, 3, 2, LIST(out)), (QhBuilt){.words = 14}, of_turns);
     /* document 01: the sentences 1 to 6, tested in this order */
-    built("no entry", qh_build(fours, 0, 1, 3, 2, LIST(out)), (QhBuilt){.refusal = 1}, NULL);
-    built("theta 0", qh_build(LIST(fours), 0, 124, 100, LIST(out)), (QhBuilt){.refusal = 4}, NULL);
-    built("q 124/100", qh_build(LIST(fours), 1, 124, 100, LIST(out)), (QhBuilt){.refusal = 5}, NULL);
-    built("eight words for nine", qh_build(LIST(four_tens), 1, 3, 2, out, 8), (QhBuilt){.refusal = 6}, NULL);
+    built("no entry", qh_build(fours, 0, 1, 3, 2, LIST(out)), (QhBuilt){.refusal = QH_REFUSED_LIST_LENGTH}, NULL);
+    built("a frequency of 0", qh_build(LIST(zero), 0, 3, 2, LIST(out)),
+          (QhBuilt){.refusal = QH_REFUSED_ZERO_FREQUENCY}, NULL);
+    built("a sum of 1,073,741,824", qh_build(LIST(large), 0, 3, 2, LIST(out)),
+          (QhBuilt){.refusal = QH_REFUSED_SUM}, NULL);
+    built("theta 0", qh_build(LIST(fours), 0, 124, 100, LIST(out)), (QhBuilt){.refusal = QH_REFUSED_THETA}, NULL);
+    built("q 124/100", qh_build(LIST(fours), 1, 124, 100, LIST(out)), (QhBuilt){.refusal = QH_REFUSED_Q}, NULL);
+    built("eight words for nine", qh_build(LIST(four_tens), 1, 3, 2, out, 8),
+          (QhBuilt){.refusal = QH_REFUSED_ROOM}, NULL);
 }
 
 static void verdict(const char *what, QhVerdict got, QhVerdict expected) {
@@ -106,13 +112,16 @@ static void verdicts(void) {
     const uint32_t wrong_total[] = {4, 100, 0xC02, 2, 0x40000202, 0x85000000, 0x80000080, 0xC0000000, 0xC0000000,
                                     0x40000A02, 0x85000000, 0x80000120, 0xC0000000, 0xC0000000};
     verdict("tens-taken", qh_check(LIST(four_tens), LIST(tens)), (QhVerdict){.accepted = 1});
-    verdict("tens-hundred", qh_check(LIST(hundred), LIST(tens)), (QhVerdict){.sort = 1, .start = 0, .end = 4});
-    verdict("after-gaps", qh_check(LIST(sixty), LIST(gaps)), (QhVerdict){.sort = 1, .start = 3, .end = 6});
-    verdict("later-start", qh_check(LIST(forty), LIST(one)), (QhVerdict){.sort = 2, .start = 1, .end = 4});
-    verdict("next-total", qh_check(LIST(twos), LIST(wrong_total)), (QhVerdict){.sort = 3, .start = 2, .end = 4});
-    verdict("no-entry", qh_check(four_tens, 0, tens, 0), (QhVerdict){.refusal = 1});
-    verdict("no-words", qh_check(four_tens, 1, tens, 0), (QhVerdict){.refusal = 7});
-    verdict("other-length", qh_check(four_tens, 1, LIST(tens)), (QhVerdict){.refusal = 13});
+    verdict("tens-hundred", qh_check(LIST(hundred), LIST(tens)),
+            (QhVerdict){.sort = QH_SORT_BUCKETLET, .start = 0, .end = 4});
+    verdict("after-gaps", qh_check(LIST(sixty), LIST(gaps)),
+            (QhVerdict){.sort = QH_SORT_BUCKETLET, .start = 3, .end = 6});
+    verdict("later-start", qh_check(LIST(forty), LIST(one)), (QhVerdict){.sort = QH_SORT_PART, .start = 1, .end = 4});
+    verdict("next-total", qh_check(LIST(twos), LIST(wrong_total)),
+            (QhVerdict){.sort = QH_SORT_BUCKET, .start = 2, .end = 4});
+    verdict("no-entry", qh_check(four_tens, 0, tens, 0), (QhVerdict){.refusal = QH_REFUSED_LIST_LENGTH});
+    verdict("no-words", qh_check(four_tens, 1, tens, 0), (QhVerdict){.refusal = QH_REFUSED_HEAD});
+    verdict("other-length", qh_check(four_tens, 1, LIST(tens)), (QhVerdict){.refusal = QH_REFUSED_OTHER_LIST});
 }
 
 static void estimated(const char *what, QhEstimate got, QhEstimate expected) {
@@ -126,9 +135,9 @@ static void estimates(void) {
     estimated("0 to 3 of tens", qh_estimate(LIST(tens), 0, 3), (QhEstimate){.estimate = 26});
     estimated("0 to 4 of tens", qh_estimate(LIST(tens), 0, 4), (QhEstimate){.estimate = 40});
     estimated("4 to 4 of tens", qh_estimate(LIST(tens), 4, 4), (QhEstimate){.estimate = 0});
-    estimated("4 to 5 of tens", qh_estimate(LIST(tens), 4, 5), (QhEstimate){.refusal = 14});
-    estimated("3 to 2 of tens, turned", qh_estimate(LIST(tens), 3, 2), (QhEstimate){.refusal = 14});
-    estimated("4 to 5 of eight words", qh_estimate(tens, 8, 4, 5), (QhEstimate){.refusal = 8});
+    estimated("4 to 5 of tens", qh_estimate(LIST(tens), 4, 5), (QhEstimate){.refusal = QH_REFUSED_RANGE});
+    estimated("3 to 2 of tens, turned", qh_estimate(LIST(tens), 3, 2), (QhEstimate){.refusal = QH_REFUSED_RANGE});
+    estimated("4 to 5 of eight words", qh_estimate(tens, 8, 4, 5), (QhEstimate){.refusal = QH_REFUSED_WORD_COUNT});
     estimated("2 to 10 of two", qh_estimate(LIST(two), 2, 10), (QhEstimate){.estimate = 135});
     estimated("3 to 5 of two", qh_estimate(LIST(two), 3, 5), (QhEstimate){.estimate = 7});
 }
@@ -138,13 +147,25 @@ static void found(const char *what, QhFound got, QhFound expected) {
     figure(what, "at", expected.at, got.at);
 }
 
-/* "places" and "faults" of words_rules/specs/Worked.antt. */
+/* Looks for an entry of two with one of its words changed. */
+static void found_changed(const char *what, size_t place, uint32_t word, uint32_t refusal) {
+    uint32_t words[sizeof two / sizeof *two];
+    memcpy(words, two, sizeof two);
+    words[place] = word;
+    found(what, qh_find(LIST(words), 3), (QhFound){.refusal = refusal});
+}
+
+/* "places" and "faults" of words_rules/specs/Worked.antt, and of its other faults one of each sentence. */
 static void places(void) {
     found("entry 3 of two", qh_find(LIST(two), 3), (QhFound){.at = 4});
     found("entry 4 of two", qh_find(LIST(two), 4), (QhFound){.at = 9});
-    found("entry 10 of two", qh_find(LIST(two), 10), (QhFound){.refusal = 15});
-    found("entry 10 of thirteen words", qh_find(two, 13, 10), (QhFound){.refusal = 8});
-    found("entry 0 of no word", qh_find(two, 0, 0), (QhFound){.refusal = 7});
+    found("entry 10 of two", qh_find(LIST(two), 10), (QhFound){.refusal = QH_REFUSED_ENTRY});
+    found("entry 10 of thirteen words", qh_find(two, 13, 10), (QhFound){.refusal = QH_REFUSED_WORD_COUNT});
+    found("entry 0 of no word", qh_find(two, 0, 0), (QhFound){.refusal = QH_REFUSED_HEAD});
+    found_changed("another kind", 9, 0x80001001, QH_REFUSED_BUCKET_WORD);
+    found_changed("a start not above the one before it", 9, 0x40000001, QH_REFUSED_START);
+    found_changed("listed widths above the span", 4, 0x40000202, QH_REFUSED_WIDTH);
+    found_changed("class 63", 5, 0xBF3C4140, QH_REFUSED_CODE);
 }
 
 static uint8_t page[QH_SHEET_BYTES];

@@ -1,7 +1,8 @@
 /*
  * Calls the library with input that nobody should lend it. Each call must answer, or refuse by a known number with all
- * else 0, and must leave alone what it is not to write. All of it is done twice: in the main thread, and in one with
- * 512 KiB of stack. The words and bytes that are read have just their length in memory: valgrind sees a step beyond.
+ * else 0, and must leave alone what it is not to write. All of it is done in the main thread and in one that has
+ * QH_BUILD_STACK bytes of stack, and what calls neither qh_build nor qh_sheet also in one that has QH_OTHER_STACK. The
+ * words and bytes that are read have just their length in memory: valgrind sees a step beyond.
  *
  * hostile [VOLUME]: the entries of the list that is built, and how many random inputs are tried.
  */
@@ -13,7 +14,6 @@
 #include <stdlib.h>
 #include <string.h>
 
-#define STACK ((size_t)512 * 1024)
 #define GUARD 16 /* elements on each side of a list that is written */
 #define MARK 0xA5
 
@@ -76,7 +76,8 @@ static void try_range(const uint32_t *list, size_t len, uint32_t x, uint32_t y) 
 
 static void try_check(const uint32_t *list, size_t list_len, const uint32_t *lent_words, size_t len) {
     QhVerdict v = qh_check(list, list_len, lent_words, len);
-    bool range = v.sort >= 1 && v.sort <= 3 && v.start < v.end && v.end <= list_len;
+    bool sort = v.sort == QH_SORT_BUCKETLET || v.sort == QH_SORT_PART || v.sort == QH_SORT_BUCKET;
+    bool range = sort && v.start < v.end && v.end <= list_len;
     bool none = v.sort == 0 && v.start == 0 && v.end == 0;
     bool fails = v.refusal == 0 && v.accepted == 0 && range;
     judge("qh_check", v.refusal, fails || (none && v.accepted == (v.refusal == 0)));
@@ -146,14 +147,15 @@ static void numbers(void) {
 static void empty_list(uint32_t *list, uint8_t *bytes) {
     uint8_t *out = lent(QH_SHEET_BYTES);
     QhBuilt built = qh_build(list, 0, 1, 3, 2, list, 0);
-    judge("qh_build of no list", built.refusal, built.refusal == 1 && built.words == 0);
+    judge("qh_build of no list", built.refusal, built.refusal == QH_REFUSED_LIST_LENGTH && built.words == 0);
     built = qh_build(freqs, volume, 1, 3, 2, list, 0);
-    judge("qh_build into no list", built.refusal, built.refusal == 6 && built.words == 0);
+    judge("qh_build into no list", built.refusal, built.refusal == QH_REFUSED_ROOM && built.words == 0);
     try_check(list, 0, list, 0);
     try_check(list, 0, words, words_len);
     try_check(freqs, volume, list, 0);
     try_range(list, 0, 0, 0);
-    judge("qh_sheet of no input", 18, qh_sheet(bytes, 0, out) == 11 && memcmp(out, "refused 18\n", 11) == 0);
+    bool is_refused = qh_sheet(bytes, 0, out) == 11 && memcmp(out, "refused 18\n", 11) == 0;
+    judge("qh_sheet of no input", QH_REFUSED_INPUT, is_refused);
     free(out);
 }
 
@@ -177,14 +179,27 @@ static void ranges(void) {
     }
 }
 
+static uint32_t *random_list(size_t len) {
+    uint32_t *list = lent(len * sizeof *list);
+    for (size_t i = 0; i < len; i++) {
+        list[i] = random_word() >> (random_word() % 32);
+    }
+    return list;
+}
+
 static void random_words(void) {
     for (size_t i = 0; i < volume; i++) {
         size_t len = random_word() % 64;
-        uint32_t *list = lent(len * sizeof *list);
-        for (size_t j = 0; j < len; j++) {
-            list[j] = random_word() >> (random_word() % 32);
-        }
+        uint32_t *list = random_list(len);
         try_words(list, len);
+        free(list);
+    }
+}
+
+static void random_frequencies(void) {
+    for (size_t i = 0; i < volume; i++) {
+        size_t len = random_word() % 64;
+        uint32_t *list = random_list(len);
         try_build(list, len, 1, 3, 2, len);
         free(list);
     }
@@ -217,28 +232,42 @@ static void qualities(void) {
     }
 }
 
+#define LONG_LEN ((size_t)QH_MAX_ENTRIES + 1)
+
+static uint32_t *long_list(uint32_t value) {
+    uint32_t *list = lent(LONG_LEN * sizeof *list);
+    for (size_t i = 0; i < LONG_LEN; i++) {
+        list[i] = value;
+    }
+    return list;
+}
+
+static const uint32_t long_values[] = {0, 1, 16384, UINT32_C(0xC0000000), UINT32_MAX};
+
 static void long_lists(void) {
-    const size_t len = 65537;
-    const uint32_t values[] = {0, 1, 16384, UINT32_C(0xC0000000), UINT32_MAX};
-    uint32_t *list = lent(len * sizeof *list);
-    for (size_t v = 0; v < 5; v++) {
-        for (size_t i = 0; i < len; i++) {
-            list[i] = values[v];
+    for (size_t v = 0; v < sizeof long_values / sizeof *long_values; v++) {
+        uint32_t *list = long_list(long_values[v]);
+        try_check(list, LONG_LEN, list, LONG_LEN);
+        try_check(list, LONG_LEN - 1, list, LONG_LEN);
+        try_range(list, LONG_LEN, 0, UINT32_MAX);
+        memcpy(list, words, words_len * sizeof *list);
+        try_check(freqs, volume, list, LONG_LEN);
+        try_range(list, LONG_LEN, 0, 1);
+        free(list);
+    }
+}
+
+static void long_frequencies(void) {
+    for (size_t v = 0; v < sizeof long_values / sizeof *long_values; v++) {
+        uint32_t *list = long_list(long_values[v]);
+        try_build(list, LONG_LEN, 64, 2, 1, QH_WORDS_FOR(LONG_LEN));
+        for (size_t i = 0; i < LONG_LEN; i++) {
+            list[i] = 1 + random_word() % 1000;
         }
-        try_build(list, len, 64, 2, 1, QH_WORDS_FOR(len));
-        try_check(list, len, list, len);
-        try_check(list, len - 1, list, len);
-        try_range(list, len, 0, UINT32_MAX);
+        try_build(list, LONG_LEN, 64, 2, 1, QH_WORDS_FOR(LONG_LEN));
+        try_build(list, LONG_LEN - 1, 64, 2, 1, QH_WORDS_FOR(LONG_LEN - 1));
+        free(list);
     }
-    for (size_t i = 0; i < len; i++) {
-        list[i] = 1 + random_word() % 1000;
-    }
-    try_build(list, len, 64, 2, 1, QH_WORDS_FOR(len));
-    try_build(list, len - 1, 64, 2, 1, QH_WORDS_FOR(len - 1));
-    memcpy(list, words, words_len * sizeof *list);
-    try_check(freqs, volume, list, len);
-    try_range(list, len, 0, 1);
-    free(list);
 }
 
 static void sheets(void) {
@@ -264,34 +293,56 @@ static void random_bytes(void) {
     }
 }
 
-static void *run(void *thread) {
+typedef struct {
+    const char *name;
+    size_t stack; /* 0: what the system gives */
+} Thread;
+
+static void *run(void *of) {
+    const Thread *thread = of;
     const struct {
         const char *name;
         void (*run)(void);
+        bool builds; /* calls qh_build or qh_sheet */
     } groups[] = {
-        {"numbers to be coded or read", numbers},
-        {"empty lists", empty_lists},
-        {"null pointers with length 0", null_lists},
-        {"ranges and entries beyond the list", ranges},
-        {"random words", random_words},
-        {"every prefix of a histogram", prefixes},
-        {"a histogram with every bit turned", bits},
-        {"lent lists of every length", lent_lengths},
-        {"theta and q", qualities},
-        {"lists of 65,537", long_lists},
-        {"every prefix of a sheet's input, and every bit turned", sheets},
-        {"a sheet of random bytes", random_bytes},
+        {"numbers to be coded or read", numbers, false},
+        {"empty lists", empty_lists, true},
+        {"null pointers with length 0", null_lists, true},
+        {"ranges and entries beyond the list", ranges, false},
+        {"random words", random_words, false},
+        {"random frequencies", random_frequencies, true},
+        {"every prefix of a histogram", prefixes, false},
+        {"a histogram with every bit turned", bits, false},
+        {"lent lists of every length", lent_lengths, true},
+        {"theta and q", qualities, true},
+        {"lists that are too long", long_lists, false},
+        {"frequencies up to the longest list and beyond", long_frequencies, true},
+        {"every prefix of a sheet's input, and every bit turned", sheets, true},
+        {"a sheet of random bytes", random_bytes, true},
     };
     for (size_t i = 0; i < sizeof groups / sizeof *groups; i++) {
+        if (groups[i].builds && thread->stack == QH_OTHER_STACK) {
+            continue;
+        }
         state = i + 1;
         calls = refused = bad = 0;
         groups[i].run();
         passed += bad == 0;
         failed += bad != 0;
-        printf("%s: %s, %s: %" PRIu64 " calls, %" PRIu64 " refused\n", bad == 0 ? "ok" : "FAIL", (const char *)thread,
+        printf("%s: %s, %s: %" PRIu64 " calls, %" PRIu64 " refused\n", bad == 0 ? "ok" : "FAIL", thread->name,
                groups[i].name, calls, refused);
     }
     return NULL;
+}
+
+static void run_apart(Thread *thread) {
+    pthread_attr_t attributes;
+    pthread_t id;
+    if (pthread_attr_init(&attributes) != 0 || pthread_attr_setstacksize(&attributes, thread->stack) != 0 ||
+        pthread_create(&id, &attributes, run, thread) != 0 || pthread_join(id, NULL) != 0) {
+        printf("FAIL: no thread with %s\n", thread->name);
+        failed++;
+    }
 }
 
 static void prepare(void) {
@@ -309,6 +360,7 @@ static void prepare(void) {
 }
 
 int main(int count, char **arguments) {
+    setvbuf(stdout, NULL, _IOLBF, BUFSIZ); /* no line is lost if a call crashes */
     if (count > 1) {
         volume = strtoul(arguments[1], NULL, 10);
     }
@@ -319,15 +371,11 @@ int main(int count, char **arguments) {
     state = 1;
     prepare();
 
-    pthread_attr_t small;
-    pthread_t thread;
-    char main_thread[] = "main thread", small_thread[] = "512 KiB of stack";
-    run(main_thread);
-    if (pthread_attr_init(&small) != 0 || pthread_attr_setstacksize(&small, STACK) != 0 ||
-        pthread_create(&thread, &small, run, small_thread) != 0 || pthread_join(thread, NULL) != 0) {
-        puts("FAIL: no thread with 512 KiB of stack");
-        failed++;
-    }
+    Thread main_thread = {"main thread", 0};
+    Thread building = {"QH_BUILD_STACK", QH_BUILD_STACK}, other = {"QH_OTHER_STACK", QH_OTHER_STACK};
+    run(&main_thread);
+    run_apart(&building);
+    run_apart(&other);
     free(freqs);
     free(words);
     free(text);

@@ -1,5 +1,6 @@
 /*
- * qh.h: histograms of a word list, with estimates that keep a stated factor. To be linked with libqh.a.
+ * qh.h: histograms of a word list, with estimates that stay within a stated factor of the true count. To be linked
+ * with libqh.a.
  *
  * An e-book reader carries one ordered list of word forms, each with the number of times it occurs. qh_build makes a
  * small histogram of the list; qh_estimate then says from that alone about how many hits a range of forms has.
@@ -10,7 +11,7 @@
  *   range      from x to y: the entries from x up to y, without y; its count is the sum of their frequencies
  *   theta, q   how close the estimates come: theta is 1 to 1,048,575; q is qn / qd, both 1 to 1,000, at least 5/4
  *   bucket     a stretch of the list with a total, in eight bucketlets, each with a number for its entries together
- *   histogram  a list of words, four at the head and five for each bucket (document 01, "Words"). They are numbers:
+ *   histogram  a list of words, four at the head and five for each bucket (docs/METHOD.md, "Words"). They are numbers:
  *              a program that stores them as bytes minds the order of the bytes itself.
  *
  * How close they come
@@ -22,16 +23,22 @@
  *   - There is nothing to test beforehand: each call answers every input, and none has a condition but those under
  *     "Outside the proof". The result comes by value.
  *   - refusal is 0, or the number of a sentence of the table below that is true of the input: the first in the order
- *     that stands at the call. Then all else in the result is 0 and no lent list has changed.
+ *     that stands at the call. Then all else in the result is 0 and no lent list has changed. qh_sheet alone has no
+ *     such field: it writes the number of its refusal into the sheet.
  *   - Every list is the caller's before, during and after the call: a pointer to the first of so many elements. Only
  *     the list `out` of qh_build and of qh_sheet is written, and only as far as its result says.
  *   - Nothing is kept between calls and no memory is allocated, so threads may call at once. Of the C library only
  *     memcpy and memset are used.
- *   - A call takes less than 512 KiB of stack. That is tested, not proved.
+ *
+ * Where it runs
+ *   libqh.a links into programs for Linux on x86-64 alone: the compiler of the proved code has no other target. For any
+ *   other device there is a separately written program in reference/, in plain Rust. It is not proved; the tests compare
+ *   it with libqh.a on millions of inputs.
  *
  * Outside the proof
- *   - a null pointer with a length above 0, a length that is not the list's, an `out` that overlaps another list, and
- *     a list that another thread writes during the call: what happens then is not known;
+ *   - a null pointer with a length above 0, a length that is not the list's, an `out` of qh_sheet with fewer bytes than
+ *     it must have, an `out` that overlaps another list, and a list that another thread writes during the call: what
+ *     happens then is not known;
  *   - a null pointer with length 0. An empty list has length 0 and any pointer that is not null; the tests see that a
  *     null pointer is answered in the same way;
  *   - whether the structs and calls of this header are those of the library: the order of fields and parameters is
@@ -48,36 +55,70 @@
 extern "C" {
 #endif
 
+/* The version of this header and of libqh.a, as text and as major * 10,000 + minor * 100 + patch. */
+#define QH_VERSION "0.1.0"
+#define QH_VERSION_NUMBER 100
+
+/* The largest d: a longer list is refused. */
+#define QH_MAX_ENTRIES 65536
+
 /* The most words that the histogram of d entries has: a bucket for each eight entries and one for the rest. */
 #define QH_WORDS_FOR(d) ((size_t)4 + (size_t)5 * (((size_t)(d) + 7) / 8))
 
 /* The length of the list `out` of qh_sheet, in bytes. */
 #define QH_SHEET_BYTES 163840
 
+/* The refusals by name. */
+enum {
+    QH_REFUSED_LIST_LENGTH = 1,
+    QH_REFUSED_ZERO_FREQUENCY = 2,
+    QH_REFUSED_SUM = 3,
+    QH_REFUSED_THETA = 4,
+    QH_REFUSED_Q = 5,
+    QH_REFUSED_ROOM = 6,
+    QH_REFUSED_HEAD = 7,
+    QH_REFUSED_WORD_COUNT = 8,
+    QH_REFUSED_BUCKET_WORD = 9,
+    QH_REFUSED_START = 10,
+    QH_REFUSED_WIDTH = 11,
+    QH_REFUSED_CODE = 12,
+    QH_REFUSED_OTHER_LIST = 13,
+    QH_REFUSED_RANGE = 14,
+    QH_REFUSED_ENTRY = 15,
+    QH_REFUSED_COUNT = 16,
+    QH_REFUSED_READING = 17,
+    QH_REFUSED_INPUT = 18
+};
+
 /* The table of refusals: the sentence of a refusal, NULL for any other number. */
 static inline const char *qh_sentence(uint32_t refusal) {
     switch (refusal) {
-    case 1: return "The frequency list has no entry or more than 65,536.";
-    case 2: return "A frequency is 0.";
-    case 3: return "The frequencies sum to more than 1,073,741,823.";
-    case 4: return "Theta is outside its limits.";
-    case 5: return "q is outside its limits.";
-    case 6: return "The lent word list is shorter than the histogram.";
-    case 7: return "There are fewer than four words, or a head word breaks its layout or limits.";
-    case 8: return "The length is not 4 plus 5 times the buckets.";
-    case 9: return "A bucket word has a wrong kind or a set bit outside its fields.";
-    case 10: return "The first start is not 0, or a start is not above the one before it, or not below d.";
-    case 11: return "The listed widths exceed their bucket, or the free width is above 4,095.";
-    case 12: return "A class is 2 or 63, a class is 0 where the width is not or the reverse, or a total code is not valid.";
-    case 13: return "The frequency list is not d long.";
-    case 14: return "x is above y, or y is above d.";
-    case 15: return "The entry is not below d.";
-    case 16: return "A count to be coded, as class or total, is 0 or above 1,073,741,823.";
-    case 17: return "A class to be read is 0, 2, 63 or above, or a total code to be read is not valid.";
-    case 18: return "The listing program's input is not as described next.";
+    case QH_REFUSED_LIST_LENGTH: return "The frequency list has no entry or more than 65,536.";
+    case QH_REFUSED_ZERO_FREQUENCY: return "A frequency is 0.";
+    case QH_REFUSED_SUM: return "The frequencies sum to more than 1,073,741,823.";
+    case QH_REFUSED_THETA: return "Theta is outside its limits.";
+    case QH_REFUSED_Q: return "q is outside its limits.";
+    case QH_REFUSED_ROOM: return "The lent word list is shorter than the histogram.";
+    case QH_REFUSED_HEAD: return "There are fewer than four words, or a head word breaks its layout or limits.";
+    case QH_REFUSED_WORD_COUNT: return "The length is not 4 plus 5 times the buckets.";
+    case QH_REFUSED_BUCKET_WORD: return "A bucket word has a wrong kind or a set bit outside its fields.";
+    case QH_REFUSED_START: return "The first start is not 0, or a start is not above the one before it, or not below d.";
+    case QH_REFUSED_WIDTH: return "The listed widths exceed their bucket, or the free width is above 4,095.";
+    case QH_REFUSED_CODE: return "A class is 2 or 63, a class is 0 where the width is not or the reverse, or a total code is not valid.";
+    case QH_REFUSED_OTHER_LIST: return "The frequency list is not d long.";
+    case QH_REFUSED_RANGE: return "x is above y, or y is above d.";
+    case QH_REFUSED_ENTRY: return "The entry is not below d.";
+    case QH_REFUSED_COUNT: return "A count to be coded, as class or total, is 0 or above 1,073,741,823.";
+    case QH_REFUSED_READING: return "A class to be read is 0, 2, 63 or above, or a total code to be read is not valid.";
+    case QH_REFUSED_INPUT: return "The input is not theta, qn, qd and 1 to 4,096 frequencies: decimal numbers below 4,294,967,296 without leading zeros, one a line, each line ended by a line feed.";
     default: return NULL;
     }
 }
+
+/* A call of qh_build takes fewer than QH_BUILD_STACK bytes of stack, and so does one of qh_sheet, which builds too; any
+ * other call takes fewer than QH_OTHER_STACK. That is tested, not proved. */
+#define QH_BUILD_STACK 524288 /* 512 KiB */
+#define QH_OTHER_STACK 16384  /* 16 KiB */
 
 typedef struct {
     uint32_t refusal;
@@ -90,10 +131,17 @@ typedef struct {
 QhBuilt qh_build(const uint32_t *freqs, size_t freqs_len, uint32_t theta, uint32_t qn, uint32_t qd,
                  uint32_t *out, size_t out_len);
 
+/* What fails: a whole bucketlet, a part of one, or the total of a bucket. */
+enum {
+    QH_SORT_BUCKETLET = 1,
+    QH_SORT_PART = 2,
+    QH_SORT_BUCKET = 3
+};
+
 typedef struct {
-    uint32_t refusal;
-    uint32_t accepted; /* 1: accepted, and the rest is 0; 0: the rest says what fails first */
-    uint32_t sort;     /* 1: a whole bucketlet, 2: a part of one, 3: the total of a bucket */
+    uint32_t refusal;  /* read it first: where it is not 0, nothing was decided, and the rest is 0 */
+    uint32_t accepted; /* 1: accepted, and the rest is 0; 0: not accepted, and the rest says what fails first */
+    uint32_t sort;     /* one of QH_SORT_.. */
     uint32_t start;    /* the range that fails, from start to end */
     uint32_t end;
 } QhVerdict;
@@ -127,14 +175,22 @@ typedef struct {
     uint32_t value;
 } QhCoded;
 
-/* How counts are written small. A count v has the class c with (7/5)^(c-1) <= v < (7/5)^c, and c stands for the largest
- * whole r with r^2 <= (7/5)^(2c-1). A total has the code 32 * b + s: from 128 on b is its seven highest bits and s the
- * number of bits below them, else b is the total and s is 0; the code stands for b * 2^s + m with the largest whole m
- * for which (m + 2^s)^2 <= 2^(2s+1). The two that code are refused with 16, the two that read with 17. */
+/* How counts are written small. A count v has the class c with (7/5)^(c-1) <= v < (7/5)^c, which is 1 or 3 to 62: no
+ * whole number lies in class 2. Such a class stands for the largest whole r with r^2 <= (7/5)^(2c-1). A total has the
+ * code 32 * b + s: from 128 on b is its seven highest bits and s the number of bits below them, else b is the total and
+ * s is 0; the code stands for b * 2^s + m with the largest whole m for which (m + 2^s)^2 <= 2^(2s+1). The two that code
+ * are refused with 16, the two that read with 17. */
 QhCoded qh_class_of(uint32_t count);
 QhCoded qh_number_of_class(uint32_t class_);
 QhCoded qh_code_of_total(uint32_t total);
 QhCoded qh_number_of_total(uint32_t code);
+
+/* How long qh_sheet's `out` is, in its type: a C compiler can warn of a shorter array. C++ has no such types. */
+#ifdef __cplusplus
+#define QH_SHEET_ROOM QH_SHEET_BYTES
+#else
+#define QH_SHEET_ROOM static QH_SHEET_BYTES
+#endif
 
 /* Writes the exam sheet of an input to the start of out, which has QH_SHEET_BYTES bytes, and answers how many it wrote;
  * those after them are as they were. The input is decimal numbers below 4,294,967,296, one a line, without leading
@@ -142,7 +198,7 @@ QhCoded qh_number_of_total(uint32_t code);
  * and the number of buckets; for each bucket one of its start, end, total code and the code's number; and after it, for
  * each of its bucketlets that is not empty, one of its start, end, class and the class's number. Where the input is not
  * so (18), or qh_build would refuse what it holds (2 to 5), the sheet is one line, `refused` and the number. */
-size_t qh_sheet(const uint8_t *input, size_t input_len, uint8_t *out);
+size_t qh_sheet(const uint8_t *input, size_t input_len, uint8_t out[QH_SHEET_ROOM]);
 
 #ifdef __cplusplus
 }

@@ -15,9 +15,9 @@ parameters_of() { # CALL
         sed -E 's/.*\((.*)\);/\1/; s/, (size_t \w+_len)/;\1/g; s/, /\n/g; s/;/, /g'
 }
 
-# Prints the names of parameters.
+# Prints the names of parameters; an array has its length in brackets after its name.
 names_of() { # PARAMETERS
-    sed -E 's/[^,]*[ *](\w+)(,|$)/\1\2/g' <<<"$1"
+    sed -E 's/[^,]*[ *](\w+)(\[\w*\])?(,|$)/\1\3/g' <<<"$1"
 }
 
 # Prints the header with two fields exchanged: with it a program meets the library as, with the true one, it would meet
@@ -46,7 +46,7 @@ pairs_below() { # NUMBER
 
 # Prints what figures.c does, compiled in this way: it passes, or it fails, by its status or by a crash.
 outcome() { # OPTION OR SOURCE..
-    if gcc -std=c11 -Wall -Wextra -Wpedantic -Werror -O0 "$@" -Itarget/embed embed/figures.c target/embed/libqh.a \
+    if gcc -std=c11 -Wall -Wextra -Wpedantic -Werror -O0 "$@" -Itarget/embed/include embed/figures.c target/embed/lib/libqh.a \
         -o "$exchanged/figures"; then
         { timeout 20 "$exchanged/figures"; } >/dev/null 2>&1
         case $? in

@@ -6,28 +6,18 @@
 //! assert_eq!(qh::estimate(&words, 4, 5).unwrap_err().to_string(), "x is above y, or y is above d.");
 //! # Ok::<(), qh::Refusal>(())
 //! ```
+//!
+//! To build this crate, run `embed/build`, which makes the library and puts the header beside it, and set `QH_LIBRARY` to
+//! the absolute path of `target/embed/lib/libqh.a`. That library is for Linux on x86-64 alone.
+//!
+//! A call panics if the library answers with a number that this crate does not know: then the two are of different
+//! versions.
 
 mod raw;
+mod refusal;
 
 use raw::*;
-use std::fmt;
-
-/// Why a call was turned away; it is shown as the sentence that `qh.h` has for its number.
-#[derive(Clone, Copy, Debug, PartialEq, Eq)]
-pub struct Refusal(pub u32);
-
-impl fmt::Display for Refusal {
-    fn fmt(&self, f: &mut fmt::Formatter<'_>) -> fmt::Result {
-        let case = format!("case {}: return \"", self.0);
-        let mut lines = include_str!("../../qh.h").lines();
-        match lines.find_map(|line| line.trim_start().strip_prefix(&case)?.strip_suffix("\";")) {
-            Some(sentence) => f.write_str(sentence),
-            None => write!(f, "{} is no refusal", self.0),
-        }
-    }
-}
-
-impl std::error::Error for Refusal {}
+pub use refusal::Refusal;
 
 /// What `check` says of a histogram and a list.
 #[derive(Clone, Copy, Debug, PartialEq, Eq)]
@@ -56,10 +46,16 @@ pub enum Sort {
     Bucket,
 }
 
+/// Panics at a number that no library of this crate's version answers with.
+fn unknown(what: &str, number: u32) -> ! {
+    let version = env!("CARGO_PKG_VERSION");
+    panic!("qh {version} does not know the {what} {number} of the linked libqh.a: the two are of different versions")
+}
+
 fn answer<T>(refusal: u32, value: T) -> Result<T, Refusal> {
     match refusal {
         0 => Ok(value),
-        number => Err(Refusal(number)),
+        number => Err(Refusal::from_number(number).unwrap_or_else(|| unknown("refusal", number))),
     }
 }
 
@@ -67,8 +63,8 @@ fn coded(coded: QhCoded) -> Result<u32, Refusal> {
     answer(coded.refusal, coded.value)
 }
 
-// SAFETY of each call below: it takes numbers, and pointers and lengths of whole slices that
-// outlive the call; the one that is written is lent to nobody else.
+// SAFETY of each call below: it takes numbers, and pointers and lengths of whole slices that outlive the call; the one
+// that is written is lent to nobody else, and has the length that the header asks for where no length goes with it.
 
 /// The words of the histogram of a list.
 ///
@@ -84,9 +80,9 @@ fn coded(coded: QhCoded) -> Result<u32, Refusal> {
 /// assert_eq!(second_class(&build(&[1, 100], 100, 3, 2)?), 0);
 ///
 /// assert!(build(&[1], 1, 5, 4).is_ok());
-/// assert_eq!(build(&[1], 1, 124, 100), Err(Refusal(5)));
+/// assert_eq!(build(&[1], 1, 124, 100), Err(Refusal::Q));
 /// assert!(build(&[1_073_741_823], 1, 3, 2).is_ok());
-/// assert_eq!(build(&[1_073_741_823, 1], 1, 3, 2), Err(Refusal(3)));
+/// assert_eq!(build(&[1_073_741_823, 1], 1, 3, 2), Err(Refusal::Sum));
 ///
 /// // No bucketlet can be wider than one entry here, and there is still room for the words.
 /// assert_eq!(build(&[1, 100, 1, 100, 1, 100, 1, 100, 1], 1, 3, 2)?.len(), 14);
@@ -106,21 +102,27 @@ pub fn build(freqs: &[u32], theta: u32, qn: u32, qd: u32) -> Result<Vec<u32>, Re
 /// use qh::{build, check, Refusal, Sort, Verdict};
 /// let words = build(&[10, 10, 10, 10], 1, 3, 2)?;
 /// assert_eq!(check(&[10, 10, 10, 10], &words)?, Verdict::Accepted);
-/// let fails = Verdict::Fails { sort: Sort::Bucketlet, start: 0, end: 4 };
-/// assert_eq!(check(&[10, 10, 10, 100], &words)?, fails);
-/// assert_eq!(check(&[10, 10, 10], &words), Err(Refusal(13)));
+///
+/// let fails = |sort, start, end| Ok(Verdict::Fails { sort, start, end });
+/// assert_eq!(check(&[10, 10, 10, 100], &words), fails(Sort::Bucketlet, 0, 4));
+/// assert_eq!(check(&[1, 13, 13, 13], &words), fails(Sort::Part, 0, 1));
+/// assert_eq!(check(&[6, 6, 7, 7], &words), fails(Sort::Bucket, 0, 4));
+/// assert_eq!(check(&[10, 10, 10], &words), Err(Refusal::OtherList));
 /// # Ok::<(), Refusal>(())
 /// ```
 pub fn check(freqs: &[u32], words: &[u32]) -> Result<Verdict, Refusal> {
     let verdict = unsafe { qh_check(freqs.as_ptr(), freqs.len(), words.as_ptr(), words.len()) };
-    let fails = |sort| Verdict::Fails { sort, start: verdict.start, end: verdict.end };
-    let value = match (verdict.accepted, verdict.sort) {
-        (1, _) => Verdict::Accepted,
-        (_, 1) => fails(Sort::Bucketlet),
-        (_, 2) => fails(Sort::Part),
-        _ => fails(Sort::Bucket),
+    answer(verdict.refusal, ())?;
+    if verdict.accepted == 1 {
+        return Ok(Verdict::Accepted);
+    }
+    let sort = match verdict.sort {
+        1 => Sort::Bucketlet,
+        2 => Sort::Part,
+        3 => Sort::Bucket,
+        number => unknown("sort", number),
     };
-    answer(verdict.refusal, value)
+    Ok(Verdict::Fails { sort, start: verdict.start, end: verdict.end })
 }
 
 /// The estimated count of the entries from x up to y, without y.
@@ -133,7 +135,7 @@ pub fn check(freqs: &[u32], words: &[u32]) -> Result<Verdict, Refusal> {
 /// assert_eq!(estimate(&words, 0, 4)?, 40);
 /// assert_eq!(estimate(&words, 2, 2)?, 0);
 /// assert_eq!(estimate(&words, 4, 4)?, 0);
-/// assert_eq!(estimate(&words, 4, 5), Err(Refusal(14)));
+/// assert_eq!(estimate(&words, 4, 5), Err(Refusal::Range));
 /// # Ok::<(), Refusal>(())
 /// ```
 pub fn estimate(words: &[u32], x: u32, y: u32) -> Result<u64, Refusal> {
@@ -147,7 +149,7 @@ pub fn estimate(words: &[u32], x: u32, y: u32) -> Result<u64, Refusal> {
 /// use qh::{build, find, Refusal};
 /// let words = build(&[10, 10, 10, 10], 1, 3, 2)?;
 /// assert_eq!(find(&words, 3)?, &words[4..]);
-/// assert_eq!(find(&words, 4), Err(Refusal(15)));
+/// assert_eq!(find(&words, 4), Err(Refusal::Entry));
 /// # Ok::<(), Refusal>(())
 /// ```
 pub fn find(words: &[u32], entry: u32) -> Result<&[u32], Refusal> {
@@ -160,7 +162,7 @@ pub fn find(words: &[u32], entry: u32) -> Result<&[u32], Refusal> {
 /// ```
 /// use qh::{class_of, Refusal};
 /// assert_eq!([1, 2, 5, 10, 11, 100].map(class_of), [1, 3, 5, 7, 8, 14].map(Ok));
-/// assert_eq!(class_of(0), Err(Refusal(16)));
+/// assert_eq!(class_of(0), Err(Refusal::Count));
 /// ```
 pub fn class_of(count: u32) -> Result<u32, Refusal> {
     coded(unsafe { qh_class_of(count) })
@@ -171,7 +173,7 @@ pub fn class_of(count: u32) -> Result<u32, Refusal> {
 /// ```
 /// use qh::{number_of_class, Refusal};
 /// assert_eq!([1, 3, 5, 7, 8, 14, 11].map(number_of_class), [1, 2, 4, 8, 12, 93, 34].map(Ok));
-/// assert_eq!([0, 2, 63].map(number_of_class), [Err(Refusal(17)); 3]);
+/// assert_eq!([0, 2, 63].map(number_of_class), [Err(Refusal::Reading); 3]);
 /// ```
 pub fn number_of_class(class: u32) -> Result<u32, Refusal> {
     coded(unsafe { qh_number_of_class(class) })
@@ -182,7 +184,7 @@ pub fn number_of_class(class: u32) -> Result<u32, Refusal> {
 /// ```
 /// use qh::{code_of_total, Refusal};
 /// assert_eq!([127, 128, 1000].map(code_of_total), [4064, 2049, 4003].map(Ok));
-/// assert_eq!(code_of_total(1_073_741_824), Err(Refusal(16)));
+/// assert_eq!(code_of_total(1_073_741_824), Err(Refusal::Count));
 /// ```
 pub fn code_of_total(total: u32) -> Result<u32, Refusal> {
     coded(unsafe { qh_code_of_total(total) })
@@ -193,8 +195,42 @@ pub fn code_of_total(total: u32) -> Result<u32, Refusal> {
 /// ```
 /// use qh::{number_of_total, Refusal};
 /// assert_eq!([4064, 2049, 4003].map(number_of_total), [127, 128, 1003].map(Ok));
-/// assert_eq!(number_of_total(0), Err(Refusal(17)));
+/// assert_eq!(number_of_total(0), Err(Refusal::Reading));
 /// ```
 pub fn number_of_total(code: u32) -> Result<u32, Refusal> {
     coded(unsafe { qh_number_of_total(code) })
+}
+
+/// The exam sheet of an input, or the line that says by which number the input is refused.
+///
+/// ```
+/// let sheet = "codes 2 theta 1 q 3/2 buckets 1\n\
+///              bucket 0 2 total 3232 101\n\
+///              0 1 code 1 count 1\n\
+///              1 2 code 14 count 93\n";
+/// assert_eq!(qh::sheet(b"1\n3\n2\n1\n100\n"), sheet.as_bytes());
+/// assert_eq!(qh::sheet(b"1\n3\n2\n"), b"refused 18\n");
+/// ```
+pub fn sheet(input: &[u8]) -> Vec<u8> {
+    let mut out = vec![0; SHEET_BYTES];
+    let length = unsafe { qh_sheet(input.as_ptr(), input.len(), out.as_mut_ptr()) };
+    out.truncate(length);
+    out
+}
+
+#[cfg(test)]
+mod tests {
+    use super::{answer, unknown};
+
+    #[test]
+    #[should_panic(expected = "does not know the refusal 19 of the linked libqh.a: the two are of different versions")]
+    fn a_refusal_of_another_version() {
+        let _ = answer(19, ());
+    }
+
+    #[test]
+    #[should_panic(expected = "does not know the sort 4 of the linked libqh.a: the two are of different versions")]
+    fn a_sort_of_another_version() {
+        unknown("sort", 4)
+    }
 }

@@ -1,4 +1,6 @@
-//! The structs and calls of qh.h.
+//! The structs, sizes and calls of qh.h.
+
+pub const SHEET_BYTES: usize = 163840;
 
 #[repr(C)]
 pub struct QhBuilt {
@@ -50,4 +52,5 @@ extern "C" {
     pub fn qh_number_of_class(class: u32) -> QhCoded;
     pub fn qh_code_of_total(total: u32) -> QhCoded;
     pub fn qh_number_of_total(code: u32) -> QhCoded;
+    pub fn qh_sheet(input: *const u8, input_len: usize, out: *mut u8) -> usize;
 }
