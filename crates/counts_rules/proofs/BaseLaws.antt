@@ -1,4 +1,4 @@
--- What holds of the base 7/5 alone: which classes counts have, and by tests that antt computes over the lists of first counts and numbers,
+-- What holds of the base 7/5 alone: which classes counts have, and by tests that antt computes over the lists of starts and numbers,
 -- that the lists are right, that a class's number lies in it and that a count is within 5/4 of its class's number.
 -- Assumes nothing.
 use mathlib.Core.Path.{_≡_, refl, ap, _∙_}

@@ -7,7 +7,7 @@ use Rattle.counts_rules.specs.Form.{form, base, usedClass}
 use Rattle.counts_rules.specs.Class.{classStart, classNumber}
 use Rattle.counts_rules.specs.Total.{middle}
 
--- the smallest count of a class; the class that begins above the limit has one too
+-- where a class begins; the one that begins above the limit is among them
 unfoldable pub startOf : ℕ → ℕ
 startOf c = cond (leb 1 c && leb c (form .classEnd)) (classStart base c) 0
 

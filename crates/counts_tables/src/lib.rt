@@ -180,7 +180,7 @@ fn middle_entry(shift: u32) -> u32
     }
 }
 
-// The smallest count of a class from 1 to 63, and 0 for any other.
+// Where a class from 1 to 63 begins, and 0 for any other. Class 2 begins at 2, as class 3 does, and holds no count.
 pub fn class_start(class: u32) -> u32
     ensures { λ r. ⌜ r ≡ startOf class ⌝ }
 {

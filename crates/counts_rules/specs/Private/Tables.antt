@@ -1,10 +1,10 @@
--- The words of the tables' contracts: first counts, numbers and middles as lists. They are no definition of anything: proofs/BaseLaws.antt
+-- The words of the tables' contracts: starts, numbers and middles as lists. They are no definition of anything: proofs/BaseLaws.antt
 -- shows each entry to be what the definitions give.
 -- Assumes nothing.
 use mathlib.Core.List.{List, [], _∷_}
 use Prim.Native.Nat.{ℕ}
 
--- the first counts of classes 1 to 63, after a 0
+-- where classes 1 to 63 begin, after a 0
 unfoldable pub classStarts : List ℕ
 classStarts =
     0 ∷ 1 ∷ 2 ∷ 2 ∷ 3 ∷ 4 ∷ 6 ∷ 8 ∷ 11 ∷ 15 ∷ 21 ∷ 29 ∷ 41 ∷ 57 ∷ 80 ∷ 112 ∷ 156 ∷ 218 ∷ 305 ∷ 427 ∷ 598 ∷ 837 ∷ 1172 ∷ 1640 ∷
