@@ -1,6 +1,6 @@
 /*
- * qh.h: histograms of a word list, with estimates that stay within a stated factor of the true count. To be linked
- * with libqh.a.
+ * qh.h: histograms of a word list, whose estimates stay within a stated factor of the true count of every range that is
+ * not small. To be linked with libqh.a.
  *
  * An e-book reader carries one ordered list of word forms, each with the number of times it occurs. qh_build makes a
  * small histogram of the list; qh_estimate then says from that alone about how many hits a range of forms has.
@@ -11,36 +11,37 @@
  *   range      from x to y: the entries from x up to y, without y; its count is the sum of their frequencies
  *   theta, q   how close the estimates come: theta is 1 to 1,048,575; q is qn / qd, both 1 to 1,000, at least 5/4
  *   bucket     a stretch of the list with a total, in eight bucketlets, each with a number for its entries together
- *   histogram  a list of words, four at the head and five for each bucket (docs/METHOD.md, "Words"). They are numbers:
- *              a program that stores them as bytes minds the order of the bytes itself.
+ *   histogram  a list of words, four at the head and five for each bucket (the repository's docs/METHOD.md, "Words").
+ *              They are numbers: a program that stores them as bytes must see to the byte order itself.
  *
  * How close they come
  *   The histograms of qh_build, and all others that qh_check accepts for the list, keep this for every range within
  *   the list and every whole k of at least 3: where the count or the estimate is above k * theta, the count is at most
- *   f times the estimate and the estimate less 1 is below f times the count, with f = q * k / (k - 2).
+ *   f times the estimate and the estimate less 1 is below f times the count, with f = q * k / (k - 2). Where both are at
+ *   most 3 * theta nothing is promised in general.
  *
  * For every call
- *   - There is nothing to test beforehand: each call answers every input, and none has a condition but those under
+ *   - Nothing needs checking beforehand: each call answers every input, and none has a precondition but those under
  *     "Outside the proof". The result comes by value.
- *   - refusal is 0, or the number of a sentence of the table below that is true of the input: the first in the order
- *     that stands at the call. Then all else in the result is 0 and no lent list has changed. qh_sheet alone has no
- *     such field: it writes the number of its refusal into the sheet.
+ *   - refusal is 0, or the number of a sentence of the table below that is true of the input: the first true one in the
+ *     order given at the call. Where it is not 0, all else in the result is 0 and no lent list has changed. qh_sheet
+ *     alone has no such field: it writes the number of its refusal into the sheet.
  *   - Every list is the caller's before, during and after the call: a pointer to the first of so many elements. Only
  *     the list `out` of qh_build and of qh_sheet is written, and only as far as its result says.
  *   - Nothing is kept between calls and no memory is allocated, so threads may call at once. Of the C library only
  *     memcpy and memset are used.
  *
  * Where it runs
- *   libqh.a links into programs for Linux on x86-64 alone: the compiler of the proved code has no other target. For any
- *   other device there is a separately written program in reference/, in plain Rust. It is not proved; the tests compare
- *   it with libqh.a on millions of inputs.
+ *   libqh.a links into programs for Linux on x86-64 only: the compiler of the proved code has no other target. For any
+ *   other device there is a separately written program in the repository's reference/, in plain Rust. It is not proved;
+ *   the tests compare it with libqh.a on millions of inputs.
  *
  * Outside the proof
- *   - a null pointer with a length above 0, a length that is not the list's, an `out` of qh_sheet with fewer bytes than
- *     it must have, an `out` that overlaps another list, and a list that another thread writes during the call: what
- *     happens then is not known;
- *   - a null pointer with length 0. An empty list has length 0 and any pointer that is not null; the tests see that a
- *     null pointer is answered in the same way;
+ *   - a null pointer with a length above 0, a pointer that is not aligned for its elements, a length that is not the
+ *     list's, an `out` of qh_sheet with fewer bytes than it must have, an `out` that overlaps another list, and a list
+ *     that another thread writes during the call: what happens then is not known;
+ *   - a null pointer with length 0. Pass an empty list as length 0 and any pointer that is not null; in the tests a null
+ *     pointer gives the same answer;
  *   - whether the structs and calls of this header are those of the library: the order of fields and parameters is
  *     tested;
  *   - faults of the compiler, the linker and the machine, and qh_sentence, which is plain C.
@@ -125,9 +126,9 @@ typedef struct {
     size_t words; /* how many words stand in out */
 } QhBuilt;
 
-/* Writes the histogram of a list, each bucketlet as wide as theta, q and the layout allow, to the start of out; the
- * words of out after it are as they were. An out of QH_WORDS_FOR(freqs_len) words is never too short.
- * Refused with 1 to 6. */
+/* Writes the histogram of a list to the start of out, each bucketlet widened entry by entry as long as it fits theta and
+ * q and the layout has room; the words of out after it are as they were. An out of QH_WORDS_FOR(freqs_len) words is
+ * never too short. Refused with 1 to 6. */
 QhBuilt qh_build(const uint32_t *freqs, size_t freqs_len, uint32_t theta, uint32_t qn, uint32_t qd,
                  uint32_t *out, size_t out_len);
 
@@ -185,7 +186,7 @@ QhCoded qh_number_of_class(uint32_t class_);
 QhCoded qh_code_of_total(uint32_t total);
 QhCoded qh_number_of_total(uint32_t code);
 
-/* How long qh_sheet's `out` is, in its type: a C compiler can warn of a shorter array. C++ has no such types. */
+/* The length of qh_sheet's `out`, as part of its type: a C compiler can warn of a shorter array. C++ has no such types. */
 #ifdef __cplusplus
 #define QH_SHEET_ROOM QH_SHEET_BYTES
 #else
@@ -193,7 +194,7 @@ QhCoded qh_number_of_total(uint32_t code);
 #endif
 
 /* Writes the exam sheet of an input to the start of out, which has QH_SHEET_BYTES bytes, and answers how many it wrote;
- * those after them are as they were. The input is decimal numbers below 4,294,967,296, one a line, without leading
+ * those after them are as they were. The input is decimal numbers below 4,294,967,296, one per line, without leading
  * zeros, each line ended by a line feed: theta, qn, qd and 1 to 4,096 frequencies. The sheet has a line of d, theta, q
  * and the number of buckets; for each bucket one of its start, end, total code and the code's number; and after it, for
  * each of its bucketlets that is not empty, one of its start, end, class and the class's number. Where the input is not

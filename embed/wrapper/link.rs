@@ -31,13 +31,13 @@ fn content(path: &Path) -> Result<Vec<u8>, String> {
     })
 }
 
-/// Tests what only the linker would notice, and then say in more words.
+/// Tests what only the linker would notice, and report at length.
 fn test(path: &Path, content: &[u8]) -> Result<(), String> {
     let call = b"qh_build\0";
     let wrong = if path.file_name() != Some("libqh.a".as_ref()) {
         "which is not named libqh.a"
     } else if !content.starts_with(b"!<arch>\n") {
-        "which is no archive"
+        "which is not an archive"
     } else if !content.windows(call.len()).any(|part| part == call) {
         "which is an archive without qh_build"
     } else {
@@ -57,7 +57,7 @@ fn main() {
     println!("cargo::rerun-if-changed=link.rs");
     println!("cargo::rerun-if-env-changed=QH_LIBRARY");
     if !target_is("CARGO_CFG_TARGET_ARCH", "x86_64") || !target_is("CARGO_CFG_TARGET_OS", "linux") {
-        println!("cargo::error=libqh.a links into programs for Linux on x86-64 alone.");
+        println!("cargo::error=libqh.a links into programs for Linux on x86-64 only.");
         return;
     }
     match library() {

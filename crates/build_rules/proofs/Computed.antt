@@ -1,18 +1,21 @@
 -- The worked examples hold of the definitions, by computation. Assumes nothing.
 use mathlib.Core.Path.{refl}
 use Rattle.laws.specs.Search.{first, largest, root}
-use Rattle.laws.specs.Each.{each}
+use Rattle.laws.specs.Each.{each, some}
+use Rattle.laws.specs.Refusal.{refusal}
 use Rattle.counts_rules.specs.Class.{classOf, classNumber}
 use Rattle.counts_rules.specs.Total.{highestBit, shift, bits, totalCode}
 use Rattle.words_rules.specs.Decoded.{encode}
+use Rattle.list_rules.specs.Frequencies.{entriesFault, zeroFault, sumFault}
 use Rattle.fit.specs.Fit.{rangesFit, bucketletFits}
 use Rattle.build_rules.specs.Width.{fitsAt, width}
 use Rattle.build_rules.specs.Bucket.{widthsFrom, bucketWidths, classesFrom, bucketFrom}
 use Rattle.build_rules.specs.Words.{bucketsFrom, bucketWordsOf, words}
+use Rattle.build_rules.specs.Building.{buildFault}
 use Rattle.build_rules.specs.Worked.{Worked}
 
 pub worked : Worked
-unfolding first largest root each classOf classNumber highestBit shift bits totalCode encode rangesFit bucketletFits fitsAt width widthsFrom bucketWidths classesFrom bucketFrom bucketsFrom bucketWordsOf words
+unfolding first largest root each some refusal classOf classNumber highestBit shift bits totalCode encode entriesFault zeroFault sumFault rangesFit bucketletFits fitsAt width widthsFrom bucketWidths classesFrom bucketFrom bucketsFrom bucketWordsOf words buildFault
 worked =
     record {
       tens-words = refl;
@@ -26,6 +29,7 @@ worked =
       count-small = refl;
       not-strict = refl;
       fits-again = refl;
+      lent = refl;
       narrow-first = refl;
       wide-first = refl;
       free-place = refl;

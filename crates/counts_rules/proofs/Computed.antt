@@ -21,5 +21,6 @@ worked =
       starts = refl;
       class-0 = refl;
       used = refl;
+      coded = refl;
       valid = refl;
     }

@@ -4,6 +4,7 @@ use mathlib.Core.Path.{_≡_}
 use mathlib.Core.Bool.{true, false}
 use mathlib.Core.List.{[], _∷_, map}
 use Prim.Native.Nat.{ℕ}
+use Rattle.counts_rules.specs.Limit.{countable}
 use Rattle.counts_rules.specs.Form.{base, usedClass}
 use Rattle.counts_rules.specs.Class.{classOf, classStart, classNumber}
 use Rattle.counts_rules.specs.Total.{totalCode, totalNumber, validCode}
@@ -33,5 +34,7 @@ pub record Worked : Type 0 where
   -- the classes next to those that no count has
   pub class-0 : classNumber base 0 ≡ 0
   pub used : map usedClass (0 ∷ 1 ∷ 2 ∷ 3 ∷ 62 ∷ 63 ∷ []) ≡ false ∷ true ∷ false ∷ true ∷ true ∷ false ∷ []
+  -- counts that are coded, on both sides of each bound
+  pub coded : map countable (0 ∷ 1 ∷ 1073741823 ∷ 1073741824 ∷ []) ≡ false ∷ true ∷ true ∷ false ∷ []
   -- codes on both sides of each bound: bits 0 and 1, 127 and 128; with a shift bits 63 and 64, and shifts 23 and 24
   pub valid : map validCode (0 ∷ 32 ∷ 4064 ∷ 4096 ∷ 2017 ∷ 2049 ∷ 2071 ∷ 2072 ∷ []) ≡ false ∷ true ∷ true ∷ false ∷ false ∷ true ∷ true ∷ false ∷ []

@@ -48,9 +48,11 @@ fn say(line: &[u8]) {
 // Someone who starts the program without input should know what it waits for.
 fn say_awaited() {
     say(
-        b"sheet: waiting for theta, qn, qd and the frequencies, one number a line; Ctrl-D ends the input.\n",
+        b"sheet: waiting on standard input for theta, qn, qd and the frequencies, one number per line; sheet takes no arguments.\n",
     );
-    say(b"The first three numbers are always taken as theta, qn and qd, never as frequencies.\n");
+    say(
+        b"The first three numbers are always taken as theta, qn and qd. Ctrl-D at the start of a line ends the input.\n",
+    );
 }
 
 // How an input looks, for one that stops being so at a line.
@@ -58,11 +60,13 @@ fn say_input(line: usize) {
     say(b"It stops being so at line ");
     io::print_decimal(STDERR_FILENO, line as u64);
     say(
-        b". Carriage returns, spaces, tabs, commas, signs, headings, blank lines and byte order marks are not allowed.\n",
+        b": that line is not such a number, has no line feed at its end, is missing, or is one too many.\n",
     );
     say(
-        b"The input comes on standard input; sheet takes no argument. For theta 1, q 3/2 and the frequencies 1 and 100 it is\n",
+        b"Carriage returns, spaces, tabs, commas, decimal points, signs, headings, blank lines and byte order marks are not allowed.\n",
     );
+    say(b"sheet reads standard input and takes no arguments, as in: sheet <list.txt\n");
+    say(b"For theta 1, q 3/2 and the frequencies 1 and 100 the input is\n");
     say(b"1\n3\n2\n1\n100\n");
 }
 

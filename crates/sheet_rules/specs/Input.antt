@@ -41,7 +41,7 @@ digit c = between 48 57 c
 abbrev pub leadingZero : List ℕ → Bool
 leadingZero l = eqb (getD l 0 0) 48 && ltb 1 (length l)
 
--- the number of decimal digits that follow those of n
+-- the number that decimal digits make after those of n
 unfoldable pub valueAfter : ℕ → List ℕ → ℕ
 valueAfter n [] = n
 valueAfter n (c ∷ cs) = valueAfter (10 * n + (c - 48)) cs
@@ -70,7 +70,8 @@ passing p (x ∷ xs) = cond (p x) (suc (passing p xs)) 0
 abbrev pub numeralLines : List ℕ → ℕ
 numeralLines input = passing numeral (lines input .ended)
 
--- of an input that is not as described, the line where it stops being so, counted from 1: no number or not ended, else missing or one too many
+-- of an input that is not as described, the line where it stops being so, counted from 1: the first that is no number, is not ended or is missing; after
+-- as many numbers as there may be, the next one, whatever it holds
 abbrev pub faultLine : List ℕ → ℕ
 faultLine input = suc (min (numeralLines input) mostNumbers)
 

@@ -7,8 +7,8 @@
 //! # Ok::<(), qh::Refusal>(())
 //! ```
 //!
-//! To build this crate, run `embed/build`, which makes the library and puts the header beside it, and set `QH_LIBRARY` to
-//! the absolute path of `target/embed/lib/libqh.a`. That library is for Linux on x86-64 alone.
+//! To build this crate, run `embed/build`, which makes the library and installs it with its header, and set `QH_LIBRARY` to
+//! the absolute path of `target/embed/lib/libqh.a`. That library is for Linux on x86-64 only.
 //!
 //! A call panics if the library answers with a number that this crate does not know: then the two are of different
 //! versions.
@@ -26,7 +26,7 @@ pub enum Verdict {
     Accepted,
     /// It is not; this fails first.
     Fails {
-        /// What the range is to the histogram.
+        /// What kind of range fails.
         sort: Sort,
         /// The first entry of the range.
         start: u32,
@@ -37,6 +37,7 @@ pub enum Verdict {
 
 /// What fails in a histogram.
 #[derive(Clone, Copy, Debug, PartialEq, Eq)]
+#[non_exhaustive]
 pub enum Sort {
     /// A whole bucketlet.
     Bucketlet,
@@ -96,7 +97,7 @@ pub fn build(freqs: &[u32], theta: u32, qn: u32, qd: u32) -> Result<Vec<u32>, Re
     answer(built.refusal, words)
 }
 
-/// Whether a histogram is accepted for a list, and else what fails first.
+/// Whether a histogram is accepted for a list, and if not, what fails first.
 ///
 /// ```
 /// use qh::{build, check, Refusal, Sort, Verdict};
