@@ -11,7 +11,7 @@ use lib.ListN.{length, getD, take, drop, length-append, length-drop, take-append
 use lib.Seq.{take-suc, drop-cons, drop-drop, take-all, getD-drop, getD-take, length-take-le}
 use Rattle.laws.proofs.Tests.{both, both-left, both-right, true-not-false, is-false, not-holds}
 use Rattle.sheet_rules.specs.Input.{lineFeed, Lines, lines, every, digit, leadingZero, valueAfter, value, numeral, allNumerals, numbers, passing, numeralLines}
-use Rattle.sheet_rules.proofs.InputLaws.{noFeed, every-back, every-both, every-one, value-snoc, Numeral, is-numeral, numeral-is, ended-line, open-line, broken}
+use Rattle.sheet_rules.proofs.InputLaws.{noFeed, every-back, every-both, every-one, value-snoc, Numeral, is-numeral, numeral-is, ended-line, no-lines, broken}
 use Rattle.sheet_rules.proofs.LinesLaws.{digits-no-feed}
 use Rattle.sheet_input.specs.Private.Lines.{Stepped}
 
@@ -57,10 +57,9 @@ module _ (input : List ℕ) (start i n : ℕ) (s : Scanned input start i n) wher
 
   -- nothing is left, and no line feed came
   pub not-ended : length input ≤ i → numeralLines (drop start input) ≡ 0
-  unfolding passing
   not-ended e =
       let all : drop start input ≡ piece input start i = sym (take-all (i - start) (drop start input) (omega (arith, length-drop start input))) in
-      ap numeralLines all ∙ ap (λ (ls : Lines). passing numeral (ls .ended)) (open-line (piece input start i) no-feed)
+      ap numeralLines all ∙ no-lines (piece input start i) no-feed
 
   module _ (c : ℕ) (is : c ≡ getD input i 0) (here : i < length input) where
     piece-more : piece input start (suc i) ≡ piece input start i ++ (c ∷ [])

@@ -60,6 +60,15 @@ open-line (x ∷ p) n =
     ap (λ (t : Bool). cond t (lineInFront (lines p)) (inFront x (lines p .ended) (lines p .rest))) (not-true (eqb x lineFeed) (both-left (not (eqb x lineFeed)) _ n))
     ∙ ap (λ (ls : Lines). inFront x (ls .ended) (ls .rest)) (open-line p (both-right (not (eqb x lineFeed)) _ n))
 
+-- how many lines are numbers, where the first line ends and where there is none
+pub lines-after : (p : List ℕ) (c : ℕ) (cs : List ℕ) → noFeed p ≡ true → eqb c lineFeed ≡ true → numeralLines (p ++ c ∷ cs) ≡ cond (numeral p) (suc (numeralLines cs)) 0
+unfolding passing
+lines-after p c cs n e = ap (λ (ls : Lines). passing numeral (ls .ended)) (ended-line p c cs n e)
+
+pub no-lines : (p : List ℕ) → noFeed p ≡ true → numeralLines p ≡ 0
+unfolding passing
+no-lines p n = ap (λ (ls : Lines). passing numeral (ls .ended)) (open-line p n)
+
 -- ---- values
 
 pub value-append : (n : ℕ) (xs ys : List ℕ) → valueAfter n (xs ++ ys) ≡ valueAfter (valueAfter n xs) ys
@@ -133,14 +142,11 @@ numeral-front p c h n =
 
 -- so bytes that are none, and hold no line feed, begin no line that is a number, whatever follows
 pub broken : (cs p : List ℕ) → noFeed p ≡ true → 0 < length p → numeral p ≡ false → numeralLines (p ++ cs) ≡ 0
-unfolding passing
-broken [] p n h b = ap numeralLines (append-nil p) ∙ ap (λ (ls : Lines). passing numeral (ls .ended)) (open-line p n)
+broken [] p n h b = ap numeralLines (append-nil p) ∙ no-lines p n
 broken (c ∷ cs) p n h b = ⊎-elim feed (other (broken cs (p ++ (c ∷ [])))) (tested (eqb c lineFeed))
   where
     feed : eqb c lineFeed ≡ true → numeralLines (p ++ c ∷ cs) ≡ 0
-    feed e =
-        ap (λ (ls : Lines). passing numeral (ls .ended)) (ended-line p c cs n e)
-        ∙ ap (λ (t : Bool). cond t (suc (passing numeral (lines cs .ended))) 0) b
+    feed e = lines-after p c cs n e ∙ ap (λ (t : Bool). cond t (suc (numeralLines cs)) 0) b
 
     other : (noFeed (p ++ (c ∷ [])) ≡ true → 0 < length (p ++ (c ∷ [])) → numeral (p ++ (c ∷ [])) ≡ false → numeralLines (p ++ (c ∷ []) ++ cs) ≡ 0)
         → eqb c lineFeed ≡ false → numeralLines (p ++ c ∷ cs) ≡ 0

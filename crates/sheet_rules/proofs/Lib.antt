@@ -1,5 +1,6 @@
 pub mod Computed
 pub mod InputLaws
+pub mod CutLaws
 pub mod TextLaws
 pub mod LinesLaws
 pub mod SheetLaws

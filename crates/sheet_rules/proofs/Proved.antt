@@ -21,6 +21,7 @@ use Rattle.sheet_rules.specs.Lines.{refusedLine}
 use Rattle.sheet_rules.specs.Sheet.{histogramSheet, numbersSheet, sheetFault, sheet, filled}
 use Rattle.sheet_rules.specs.Claims.{Exam}
 use Rattle.sheet_rules.proofs.TextLaws.{places-some, below-power, reaches-power}
+use Rattle.sheet_rules.proofs.CutLaws.{cut-line}
 use Rattle.sheet_rules.proofs.LinesLaws.{described, input-short, read, written}
 use Rattle.sheet_rules.proofs.SheetLaws.{refused-short, list-printed, list-refused, list-short, filled-whole}
 
@@ -82,19 +83,25 @@ printed input z = ⊎-elim read not-read (tested (asDescribed input))
     not-read : asDescribed input ≡ false → sheet input ≡ histogramSheet (words (quality (getD ns 0 0) (getD ns 1 0) (getD ns 2 0)) (drop 3 ns))
     not-read t = absurd (let e = fault-refused input t in omega (arith, e, z))
 
+-- a longer input is not as described
+not-long : (input : List ℕ) → maxInput < length input → asDescribed input ≡ false
+not-long input h = is-false (asDescribed input) (λ d. let s = input-short input d in omega arith)
+
 long : (input : List ℕ) → maxInput < length input → sheet input ≡ refusedLine 18
-long input h = sheet-refused input (is-false (asDescribed input) (λ d. let s = input-short input d in omega arith))
+long input h = sheet-refused input (not-long input h)
 
-cut : (input : List ℕ) → sheet (take (maxInput + 1) input) ≡ sheet input
-cut input = ⊎-elim all longer (tested (leb (length input) (maxInput + 1)))
+-- what is the same of all longer inputs is so of an input that is cut after one byte more
+cut-any : {A : Type 0} (f : List ℕ → A) (z : A) → ((input : List ℕ) → maxInput < length input → f input ≡ z)
+    → (input : List ℕ) → f (take (maxInput + 1) input) ≡ f input
+cut-any f z same input = ⊎-elim all longer (tested (leb (length input) (maxInput + 1)))
   where
-    all : leb (length input) (maxInput + 1) ≡ true → sheet (take (maxInput + 1) input) ≡ sheet input
-    all t = ap sheet (take-all (maxInput + 1) input (leb-true _ _ t))
+    all : leb (length input) (maxInput + 1) ≡ true → f (take (maxInput + 1) input) ≡ f input
+    all t = ap f (take-all (maxInput + 1) input (leb-true _ _ t))
 
-    longer : leb (length input) (maxInput + 1) ≡ false → sheet (take (maxInput + 1) input) ≡ sheet input
+    longer : leb (length input) (maxInput + 1) ≡ false → f (take (maxInput + 1) input) ≡ f input
     longer t =
         let many = leb-false (length input) (maxInput + 1) t in
-        long (take (maxInput + 1) input) (omega (arith, length-take-le (maxInput + 1) input (omega (arith, many)))) ∙ sym (long input (omega (arith, many)))
+        same (take (maxInput + 1) input) (omega (arith, length-take-le (maxInput + 1) input (omega (arith, many)))) ∙ sym (same input (omega (arith, many)))
 
 short : (input : List ℕ) → length (sheet input) ≤ maxSheet
 unfolding numbersSheet
@@ -123,7 +130,9 @@ exam =
       refused = refused;
       printed = printed;
       long = long;
-      cut = cut;
+      cut = cut-any sheet (refusedLine 18) long;
+      cut-fault = cut-any sheetFault 18 (λ input h. fault-refused input (not-long input h));
+      cut-line = cut-line;
       short = short;
       whole = whole;
     }

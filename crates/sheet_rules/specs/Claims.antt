@@ -10,7 +10,7 @@ use Rattle.list_rules.specs.Quality.{quality}
 use Rattle.build_rules.specs.Words.{words}
 use Rattle.sheet_rules.specs.Limits.{leastNumbers, mostNumbers, maxInput, maxSheet}
 use Rattle.sheet_rules.specs.Text.{places, decimal}
-use Rattle.sheet_rules.specs.Input.{lineFeed, every, asDescribed, numbers}
+use Rattle.sheet_rules.specs.Input.{lineFeed, every, asDescribed, numbers, faultLine}
 use Rattle.sheet_rules.specs.Lines.{refusedLine}
 use Rattle.sheet_rules.specs.Sheet.{histogramSheet, sheetFault, sheet, filled}
 
@@ -39,6 +39,8 @@ pub record Exam : Type 0 where
   -- a longer input is refused with 18 whatever follows, so that reading may stop after one byte more
   pub long : (input : List ℕ) → maxInput < length input → sheet input ≡ refusedLine 18
   pub cut : (input : List ℕ) → sheet (take (maxInput + 1) input) ≡ sheet input
+  pub cut-fault : (input : List ℕ) → sheetFault (take (maxInput + 1) input) ≡ sheetFault input
+  pub cut-line : (input : List ℕ) → faultLine (take (maxInput + 1) input) ≡ faultLine input
   -- what is printed has an end
   pub short : (input : List ℕ) → length (sheet input) ≤ maxSheet
   -- so where that many bytes are lent, they begin with all of it
