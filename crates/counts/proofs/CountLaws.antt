@@ -1,16 +1,17 @@
--- What the code computes, as laws on plain numbers: leading zeros give the first guess of a class and the shift of a total, and shifts and
--- masks the fields of a code.
+-- What the code computes, as laws on plain numbers: leading zeros give the highest set bit, that the first guess of a class, and shifts and masks
+-- the fields of a code.
 -- Assumes nothing.
 use mathlib.Core.Path.{_≡_, refl, sym, ap, _∙_}
 use mathlib.Core.Bool.{Bool, true, false, cond}
 use Prim.Native.Nat.{ℕ, suc, _+_, _-_, _*_, _/_, _%_, _^_, _≤_, _<_}
-use native.Mathlib.Nat.{mod-eq-of-lt, mul-le-mul, mul-le-mul-right, one-le-pow, pow-succ'}
+use native.Mathlib.Nat.{mod-eq-of-lt, mul-le-mul, mul-le-mul-right, one-le-pow}
+use native.Mathlib.Numerals.{add-one}
 use native.Mathlib.Omega.{arith}
 use borrow.Author.Tests.{leb-true, leb-false, eqb-true, eqb-false, le-leb}
 use lib.Dec.{leb, eqb}
 use lib.Bits.{bitOr, or-shifted}
 use lib.Count.{leadingZeros, leading-top}
-use lib.Pow.{pow-add, pow-mono}
+use lib.Pow.{pow-mono}
 use Rattle.laws.specs.Each.{each}
 use Rattle.laws.specs.Reply.{answered, refused, caseOf}
 use Rattle.laws.proofs.EachLaws.{each-at}
@@ -18,12 +19,13 @@ use Rattle.laws.proofs.ReplyLaws.{answered-case, refused-case}
 use Rattle.laws.proofs.Tests.{true-not-false, both, is-false, same-test}
 use Rattle.counts_rules.specs.Limit.{limit, countable}
 use Rattle.counts_rules.specs.Form.{base, usedClass}
+use Rattle.counts_rules.specs.Claims.{HighestBit}
 use Rattle.counts_rules.specs.Class.{classOf, classStart, classNumber}
-use Rattle.counts_rules.specs.Total.{shift, bits, totalCode, middle, totalNumber, codeBits, codeShift, validFields, validCode}
+use Rattle.counts_rules.specs.Total.{highestBit, shift, bits, totalCode, middle, totalNumber, codeBits, codeShift, validFields, validCode}
 use Rattle.counts_rules.proofs.ClassLaws.{Reached, class-eq, start-is, reached-up, reached-down}
 use Rattle.counts_rules.proofs.BaseLaws.{used-says, reached-by-two, reached-small}
-use Rattle.counts_rules.proofs.TotalLaws.{Valid, shift-eq, shift-small, bits-small, valid-says, says-valid, number-small}
-use Rattle.counts_tables.specs.Entries.{startOf, numberOf, middleOf}
+use Rattle.counts_rules.proofs.TotalLaws.{Valid, highest-is, highest-eq, highest-least, shift-small, bits-small, middle-small, valid-says, says-valid}
+use Rattle.counts_tables.specs.Entries.{startOf, numberOf}
 
 -- ---- a test decides between the answer and the refusal
 
@@ -46,29 +48,17 @@ not-used c h = is-false (usedClass c) (λ t. let u = used-says c t in h (u .0) (
 
 -- ---- the place of the highest set bit
 
-pub record Top (x k : ℕ) : Type 0 where
-  pub from : 2 ^ k ≤ x
-  pub to : x < 2 ^ suc k
-
-pub zeros-top : (x : ℕ) → 1 ≤ x → x < 2 ^ 32 → (leadingZeros 32 x ≤ 31) × Top x (31 - leadingZeros 32 x)
-zeros-top x p h =
+pub highest-by-zeros : (x : ℕ) → 1 ≤ x → x < 2 ^ 32 → (leadingZeros 32 x ≤ 31) × (31 - leadingZeros 32 x ≡ highestBit x)
+highest-by-zeros x p h =
     let t = leading-top 32 x p h in
     let e : 31 - leadingZeros 32 x ≡ t .0 = omega (arith, t .1) in
-    (omega (arith, t .1), record { from = rw e (t .2); to = rw e (t .3) })
-
-top-least : (x k n : ℕ) → Top x k → 2 ^ n ≤ x → n ≤ k
-top-least x k n t h = let a : k < n → ⊥ = λ l. omega (arith, t .to, pow-mono {i = suc k} {j = n} l) in omega arith
+    (omega (arith, t .1), e ∙ sym (highest-eq x (t .0) (record { from = t .2; below = rw add-one (t .3) })))
 
 -- ---- the class
 
 -- where the search may start: at the class after a power that the highest bit reaches, far enough from the end
-pub guess : (v c : ℕ) → 1 ≤ v → v ≤ limit → c ≡ 2 * (31 - leadingZeros 32 v) + 1 → (1 ≤ c) × (c ≤ 62) × Reached base (c - 1) v
-guess v c h l e =
-    let t = zeros-top v h (omega arith) .1 in
-    let k = 31 - leadingZeros 32 v in
-    let far : 30 ≤ k → ⊥ = λ g. omega (arith, t .from, pow-mono {i = 30} {j = k} g) in
-    let f : c - 1 ≡ 2 * k = omega arith in
-    (omega arith, omega arith, rw f (reached-by-two k v (t .from)))
+guess : (v k c : ℕ) → 2 ^ k ≤ v → k < 30 → c ≡ 2 * k + 1 → (1 ≤ c) × (c ≤ 62) × Reached base (c - 1) v
+guess v k c h l e = let f : c - 1 ≡ 2 * k = omega arith in (omega arith, omega arith, rw f (reached-by-two k v h))
 
 start-in : (c : ℕ) → 1 ≤ c → c ≤ 63 → startOf c ≡ classStart base c
 unfolding startOf
@@ -100,16 +90,16 @@ later-not v c h l s =
     omega (arith, reach)
 
 -- v is below the next power of two, which no class more than three further on begins below
-powers : each 30 (λ k. leb (2 ^ suc k * 5 ^ (2 * k + 4)) (7 ^ (2 * k + 4))) ≡ true
+powers : each 30 (λ k. leb (2 ^ (k + 1) * 5 ^ (2 * k + 4)) (7 ^ (2 * k + 4))) ≡ true
 unfolding each
 powers = refl
 
-fourth-not : (v k c : ℕ) → k < 30 → v < 2 ^ suc k → c ≡ 2 * k + 1 → v < startOf (c + 4)
+fourth-not : (v k c : ℕ) → k < 30 → v < 2 ^ (k + 1) → c ≡ 2 * k + 1 → v < startOf (c + 4)
 fourth-not v k c h l e =
     let f = start-in (c + 4) (omega arith) (omega arith) in
     let m : c + 4 - 1 ≡ 2 * k + 4 = omega arith in
-    let bound = leb-true (2 ^ suc k * 5 ^ (2 * k + 4)) (7 ^ (2 * k + 4)) (each-at 30 (λ k. leb (2 ^ suc k * 5 ^ (2 * k + 4)) (7 ^ (2 * k + 4))) powers k h) in
-    let less : suc v * 5 ^ (2 * k + 4) ≤ 2 ^ suc k * 5 ^ (2 * k + 4) = mul-le-mul-right (5 ^ (2 * k + 4)) l in
+    let bound = leb-true (2 ^ (k + 1) * 5 ^ (2 * k + 4)) (7 ^ (2 * k + 4)) (each-at 30 (λ k. leb (2 ^ (k + 1) * 5 ^ (2 * k + 4)) (7 ^ (2 * k + 4))) powers k h) in
+    let less : suc v * 5 ^ (2 * k + 4) ≤ 2 ^ (k + 1) * 5 ^ (2 * k + 4) = mul-le-mul-right (5 ^ (2 * k + 4)) l in
     let some = one-le-pow (2 * k + 4) 5 (omega arith) in
     let reach : startOf (c + 4) ≤ v → ⊥ =
     λ g. let r : Reached base (2 * k + 4) v =
@@ -119,17 +109,17 @@ fourth-not v k c h l e =
 
 -- the class is the first guess and one more for each of the next three that v reaches
 counted-next : (v c a b d : ℕ) → 1 ≤ v → v ≤ limit → a ≡ cond (leb (startOf (c + 1)) v) 1 0 → b ≡ cond (leb (startOf (c + 2)) v) 1 0
-    → d ≡ cond (leb (startOf (c + 3)) v) 1 0 → c ≡ 2 * (31 - leadingZeros 32 v) + 1 → c + a + b + d ≡ classOf base v
+    → d ≡ cond (leb (startOf (c + 3)) v) 1 0 → c ≡ 2 * highestBit v + 1 → c + a + b + d ≡ classOf base v
 counted-next v c a b d h l ea eb ed e = go _ _ _ refl refl refl ea eb ed
   where
-    top : Top v (31 - leadingZeros 32 v)
-    top = zeros-top v h (omega arith) .1
+    top : HighestBit v (highestBit v)
+    top = highest-is v h
+
+    far : highestBit v < 30
+    far = let g : 30 ≤ highestBit v → ⊥ = λ g. omega (arith, top .from, pow-mono {i = 30} {j = highestBit v} g) in omega (arith, g)
 
     first : (1 ≤ c) × (c ≤ 62) × Reached base (c - 1) v
-    first = guess v c h l e
-
-    far : 31 - leadingZeros 32 v < 30
-    far = let g : 30 ≤ 31 - leadingZeros 32 v → ⊥ = λ g. omega (arith, top .from, pow-mono {i = 30} {j = 31 - leadingZeros 32 v} g) in omega (arith, g)
+    first = guess v (highestBit v) c (top .from) far e
 
     -- v is in class n or above it, and before the next
     is-class : (n m : ℕ) → m ≡ n + 1 → 1 ≤ n → n ≤ 62 → Reached base (n - 1) v → v < startOf m → n ≡ classOf base v
@@ -147,7 +137,7 @@ counted-next v c a b d h l ea eb ed e = go _ _ _ refl refl refl ea eb ed
         let one = next c (c + 1) (omega arith) (first .0) (first .1) (leb-true _ _ q) in
         let two = next (c + 1) (c + 2) (omega arith) (omega arith) (one .0) (leb-true _ _ r) in
         let three = next (c + 2) (c + 3) (omega arith) (omega arith) (two .0) (leb-true _ _ s) in
-        let is = is-class (c + 3) (c + 4) (omega arith) (omega arith) (three .0) (three .1) (fourth-not v (31 - leadingZeros 32 v) c far (top .to) e) in
+        let is = is-class (c + 3) (c + 4) (omega arith) (omega arith) (three .0) (three .1) (fourth-not v (highestBit v) c far (top .below) e) in
         omega (arith, ea, eb, ed, is)
     go true true false q r s ea eb ed =
         let one = next c (c + 1) (omega arith) (first .0) (first .1) (leb-true _ _ q) in
@@ -173,30 +163,18 @@ counted-next v c a b d h l ea eb ed e = go _ _ _ refl refl refl ea eb ed
 
 -- the same with the three classes as they are in hand
 pub counted-class : (v c x y z a b d : ℕ) → 1 ≤ v → v ≤ limit → x ≡ c + 1 → y ≡ c + 2 → z ≡ c + 3 → a ≡ cond (leb (startOf x) v) 1 0
-    → b ≡ cond (leb (startOf y) v) 1 0 → d ≡ cond (leb (startOf z) v) 1 0 → c ≡ 2 * (31 - leadingZeros 32 v) + 1 → c + a + b + d ≡ classOf base v
+    → b ≡ cond (leb (startOf y) v) 1 0 → d ≡ cond (leb (startOf z) v) 1 0 → c ≡ 2 * highestBit v + 1 → c + a + b + d ≡ classOf base v
 counted-class v c x y z a b d h l ex ey ez ea eb ed e = counted-next v c a b d h l (rw ex at ea) (rw ey at eb) (rw ez at ed) e
 
 pub number-in : (c : ℕ) → usedClass c ≡ true → numberOf c ≡ classNumber base c
 unfolding numberOf
 number-in c t = simp t
 
-pub middle-in : (s : ℕ) → s ≤ 23 → middleOf s ≡ middle s
-unfolding middleOf
-middle-in s h = simp (le-leb s 23 h)
-
 -- ---- the total code
 
-pub shift-none : (t : ℕ) → t < 128 → 0 ≡ shift t
-shift-none t h = sym (shift-eq t 0 (record { below = omega arith; above = λ g. absurd (omega arith) }))
-
-pub shift-by-zeros : (t : ℕ) → 128 ≤ t → t < 2 ^ 32 → (leadingZeros 32 t ≤ 25) × (25 - leadingZeros 32 t ≡ shift t)
-shift-by-zeros t h l =
-    let z = zeros-top t (omega arith) l in
-    let k = 31 - leadingZeros 32 t in
-    let s = 25 - leadingZeros 32 t in
-    let far = top-least t k 7 (z .1) h in
-    let e : 2 ^ k ≡ 64 * 2 ^ s = ap (λ (n : ℕ). 2 ^ n) {x = k} {y = 6 + s} (omega arith) ∙ pow-add 2 6 s in
-    (omega arith, sym (shift-eq t s (record { below = omega (arith, z .1 .to, pow-succ' 2 k); above = λ _. omega (arith, z .1 .from) })))
+-- from 128 on there are six bits below the highest
+pub six-below : (t : ℕ) → 128 ≤ t → 6 ≤ highestBit t
+six-below t h = omega (arith, highest-least t 7 (highestBit t) h (highest-is t (omega arith) .below))
 
 -- the bits, five places up, and the shift below them
 pub code-packed : (t s x : ℕ) → t ≤ limit → s ≡ shift t → x ≡ bits t * 32 → bitOr x s ≡ totalCode t
@@ -231,17 +209,11 @@ never-valid b s h = valid-by false b s (λ e. absurd (true-not-false e refl)) (�
 pub validity : (c b s : ℕ) (t u : Bool) → b ≡ codeBits c → s ≡ codeShift c → t ≡ validFields b s → t ≡ u → validCode c ≡ u
 validity c b s t u g h e f = rw (← g, ← h) (sym e ∙ f)
 
--- the number as it is added up, with the shift and the middle that the code has in hand
-pub record Packed (c n : ℕ) : Type 0 where
-  pub value : n ≡ totalNumber c
-  pub small : n < 2 ^ 32
-
-pub number-packed : (c b s m : ℕ) → m ≡ middleOf s → b ≡ codeBits c → s ≡ codeShift c → validCode c ≡ true → Packed c (b * 2 ^ s % 2 ^ 32 + m)
+-- the number as it is put together: the bits above the middle
+pub number-packed : (c b s m : ℕ) → m ≡ middle s → b ≡ codeBits c → s ≡ codeShift c → validCode c ≡ true → bitOr (b * 2 ^ s % 2 ^ 32) m ≡ totalNumber c
 unfolding totalNumber
 number-packed c b s m f h e t =
     let v = valid-says (codeBits c) (codeShift c) t in
-    let g : m ≡ middle (codeShift c) = f ∙ ap middleOf e ∙ middle-in (codeShift c) (v .shift-top) in
     let p = mul-le-mul (v .bits-top) (pow-mono {i = codeShift c} {j = 23} (v .shift-top)) in
-    let w : c / 32 * 2 ^ codeShift c % 2 ^ 32 ≡ c / 32 * 2 ^ codeShift c = mod-eq-of-lt (omega arith) in
-    let n : b * 2 ^ s % 2 ^ 32 + m ≡ totalNumber c = rw (h, e, w, g) in
-    record { value = n; small = omega (arith, n, number-small c t) }
+    let w : codeBits c * 2 ^ codeShift c % 2 ^ 32 ≡ codeBits c * 2 ^ codeShift c = mod-eq-of-lt (omega arith) in
+    rw (f, h, e, w) (or-shifted (codeBits c) (codeShift c) (middle (codeShift c)) (middle-small (codeShift c)))

@@ -7,12 +7,15 @@ ghost use lib.Dec.{leb, eqb};
 ghost use Rattle.counts_rules.specs.Limit.{limit, countable};
 ghost use Rattle.counts_rules.specs.Form.{base, usedClass};
 ghost use Rattle.counts_rules.specs.Class.{classOf};
-ghost use Rattle.counts_rules.specs.Total.{shift, validFields, validCode};
+ghost use Rattle.counts_rules.specs.Total.{highestBit, shift, middle, validFields, validCode};
 ghost use Rattle.counts_tables.specs.Entries.{startOf};
 ghost use Rattle.counts.specs.Reply.{codedReply, meaningReply, codedOf, meaningOf, classReply, classMeaning, totalReply, totalMeaning};
 
 // The largest count that is coded.
 const LIMIT: u32 = 1073741823;
+
+// The whole part of (√2 - 1) · 2^32, which is the paper's C.
+const SQRT_2_LESS_1: u32 = 1779033703;
 
 // What a count is coded as.
 pub enum Coded {
@@ -33,6 +36,14 @@ fn is_countable(count: u32) -> bool
     arithmetic::is_between(1, LIMIT, count)
 }
 
+// The place of a count's highest set bit, counted from 0.
+fn highest_bit(count: u32) -> u32
+    requires { ⌜ 1 ≤ count ⌝ }
+    ensures { λ r. ⌜ (r ≡ highestBit count) × (r ≤ 31) ⌝ }
+{
+    31 - u32::leading_zeros(count)
+}
+
 // 1 if a count is in a class or above it, else 0.
 fn reached(class: u32, count: u32) -> u32
     ensures { λ r. ⌜ (r ≡ cond (leb (startOf class) count) 1 0) × (r ≤ 1) ⌝ }
@@ -50,7 +61,7 @@ fn class_search(count: u32) -> u32
     requires { ⌜ (1 ≤ count) × (count ≤ limit) ⌝ }
     ensures { λ r. ⌜ r ≡ classOf base count ⌝ }
 {
-    let least = 2 * (31 - u32::leading_zeros(count)) + 1;
+    let least = 2 * highest_bit(count) + 1;
     least + reached(least + 1, count) + reached(least + 2, count) + reached(least + 3, count)
 }
 
@@ -96,7 +107,7 @@ fn shift_of(total: u32) -> u32
     if total < 128 {
         return 0;
     }
-    25 - u32::leading_zeros(total)
+    highest_bit(total) - 6
 }
 
 // The code of a total, or 16: its highest seven bits above the shift that they had.
@@ -108,7 +119,8 @@ pub fn code_of_total(total: u32) -> Coded
         return Coded::Refused;
     }
     let shift = shift_of(total);
-    Coded::Code(((total >> shift) << 5) | shift)
+    let bits = total >> shift;
+    Coded::Code((bits << 5) | shift)
 }
 
 // The least bits under a shift.
@@ -138,6 +150,17 @@ pub fn is_total_code(code: u32) -> bool
     is_valid(code >> 5, code & 31)
 }
 
+// The middle of a shift. Shift 0 has a branch of its own, since a word cannot be moved by 32.
+fn middle_of(shift: u32) -> u32
+    requires { ⌜ shift ≤ 23 ⌝ }
+    ensures { λ r. ⌜ r ≡ middle shift ⌝ }
+{
+    match shift {
+        0 => 0,
+        _ => SQRT_2_LESS_1 >> (32 - shift),
+    }
+}
+
 // The number that a total code stands for, or 17.
 pub fn number_of_total(code: u32) -> Meaning
     ensures { λ r. ⌜ meaningReply r ≡ totalMeaning code ⌝ }
@@ -146,7 +169,7 @@ pub fn number_of_total(code: u32) -> Meaning
     if !is_total_code(code) {
         return Meaning::Refused;
     }
-    let bits = code >> 5;
     let shift = code & 31;
-    Meaning::Number((bits << shift) + counts_tables::shift_middle(shift))
+    let bits = code >> 5;
+    Meaning::Number((bits << shift) | middle_of(shift))
 }

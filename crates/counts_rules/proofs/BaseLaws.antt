@@ -15,10 +15,8 @@ use Rattle.laws.proofs.Table.{at}
 use Rattle.counts_rules.specs.Limit.{limit}
 use Rattle.counts_rules.specs.Form.{base, usedClass}
 use Rattle.counts_rules.specs.Class.{Class, reaches, inClass, classOf, classStart, classNumber}
-use Rattle.counts_rules.specs.Total.{middle}
-use Rattle.counts_rules.specs.Private.Tables.{classStarts, classNumbers, shiftMiddles}
+use Rattle.counts_rules.specs.Private.Tables.{classStarts, classNumbers}
 use Rattle.counts_rules.proofs.ClassLaws.{Reached, class-is, reached-down, start-eq, start-le, below-next, number-is}
-use Rattle.counts_rules.proofs.TotalLaws.{middle-eq}
 
 -- ---- the classes in use
 
@@ -78,9 +76,6 @@ abbrev numberAt : ℕ → ℕ → Bool
 numberAt c r =
     not (usedClass c) || leb (r * r * 5 ^ (2 * c - 1)) (7 ^ (2 * c - 1)) && ltb (7 ^ (2 * c - 1)) (suc r * suc r * 5 ^ (2 * c - 1))
 
-abbrev middleAt : ℕ → ℕ → Bool
-middleAt s m = leb ((m + 2 ^ s) * (m + 2 ^ s)) (2 ^ (2 * s + 1)) && ltb (2 ^ (2 * s + 1)) ((suc m + 2 ^ s) * (suc m + 2 ^ s))
-
 pub starts-right : (c : ℕ) → 1 ≤ c → c < 64 → classStart base c ≡ getD classStarts c 0
 unfolding classStarts
 starts-right c h g =
@@ -104,14 +99,6 @@ numbers-right c t =
     let pos = one-le-pow (2 * c - 1) 5 (omega arith) in
     root-unique x y pos (classNumber base c) r (number-is base (omega arith) (omega arith) c (u .0))
     (root-of x y pos r (leb-true _ _ (both-left (leb (r * r * y) x) _ e)) (ltb-true _ _ (both-right (leb (r * r * y) x) _ e)))
-
-pub middles-right : (s : ℕ) → s ≤ 23 → middle s ≡ getD shiftMiddles s 0
-unfolding shiftMiddles
-middles-right s h =
-    let m = getD shiftMiddles s 0 in
-    let e = at middleAt shiftMiddles refl s (omega arith) in
-    middle-eq s m (leb-true _ _ (both-left (leb ((m + 2 ^ s) * (m + 2 ^ s)) (2 ^ (2 * s + 1))) _ e))
-    (ltb-true _ _ (both-right (leb ((m + 2 ^ s) * (m + 2 ^ s)) (2 ^ (2 * s + 1))) _ e))
 
 -- ---- a class beside its number
 

@@ -2,6 +2,7 @@
 use mathlib.Core.Path.{refl}
 use native.Mathlib.Omega.{arith}
 use lib.Dec.{lit≤}
+use Rattle.laws.specs.Each.{each}
 use Rattle.laws.specs.Search.{first, largest, root}
 use Rattle.counts_rules.specs.Form.{base}
 use Rattle.counts_rules.specs.Class.{classOf, classNumber}
@@ -31,6 +32,7 @@ classes =
     }
 
 pub totals : Totals
+unfolding each
 totals =
     record {
       highest-bit = total.highest-is;
@@ -38,6 +40,7 @@ totals =
       code-valid = total.code-valid;
       middle-within = λ s. total.middle-is s .within;
       middle-most = λ s m. total.middle-is s .most m;
+      middle-moved = λ s h. total.moved-is _ _ 33 refl s (omega arith);
       number-has-code = total.number-has-code;
       number-small = λ c t. omega (arith, total.number-small c t);
       count-within = λ t h l. total.count-within t l;

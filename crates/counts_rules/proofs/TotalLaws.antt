@@ -11,6 +11,8 @@ use native.Mathlib.Omega.{arith}
 use borrow.Author.Tests.{leb-true, leb-false, ltb-true, ltb-false, eqb-true, le-leb}
 use lib.Dec.{leb, ltb, eqb, lit<}
 use lib.Pow.{pow-pos, pow-mono, pow-add}
+use Rattle.laws.specs.Each.{each}
+use Rattle.laws.proofs.EachLaws.{each-at}
 use Rattle.laws.proofs.Tests.{both, both-left, both-right, holds-left, holds-right, either}
 use Rattle.laws.proofs.SearchLaws.{first-is, largest-is}
 use Rattle.counts_rules.specs.Limit.{limit}
@@ -41,13 +43,14 @@ highest-is t h =
     high k w p =
         ⊎-elim (λ (e : k ≡ t). rw e (omega (arith, below-power t, pow-succ' 2 t))) (λ (l : k < t). ltb-true _ _ (p (omega arith))) (eq-or-lt-of-le (omega arith))
 
-highest-le : (t h k : ℕ) → HighestBit t h → HighestBit t k → h ≤ k
-highest-le t h k p q = let a : k < h → ⊥ = λ l. let m = pow-mono {i = k + 1} {j = h} (omega arith) in omega (arith, p .from, q .below) in omega arith
+-- no power above that of the highest bit is reached
+pub highest-least : (t n k : ℕ) → 2 ^ n ≤ t → t < 2 ^ (k + 1) → n ≤ k
+highest-least t n k p q = let a : k < n → ⊥ = λ l. let m = pow-mono {i = k + 1} {j = n} (omega arith) in omega arith in omega arith
 
 pub highest-eq : (t h : ℕ) → HighestBit t h → highestBit t ≡ h
 highest-eq t h p =
     let q = highest-is t (omega (arith, pow-pos h, p .from)) in
-    omega (arith, highest-le t h (highestBit t) p q, highest-le t (highestBit t) h q p)
+    omega (arith, highest-least t h (highestBit t) (p .from) (q .below), highest-least t (highestBit t) h (q .from) (p .below))
 
 pub shift-is : (t : ℕ) → Shift t (shift t)
 unfolding shift
@@ -59,14 +62,9 @@ shift-is t = go (ltb t 128) refl
         let l = ltb-false t 128 e in
         let h = highest-is t (omega arith) in
         let k = highestBit t in
-        let far : 6 ≤ k = seventh k (h .below) in
+        let far = highest-least t 7 k l (h .below) in
         let e1 : 2 ^ k ≡ 64 * 2 ^ (k - 6) = ap (λ (n : ℕ). 2 ^ n) {x = k} {y = 6 + (k - 6)} (omega arith) ∙ pow-add 2 6 (k - 6) in
         record { below = omega (arith, h .below, pow-succ' 2 k, ap (λ (n : ℕ). 2 ^ n) (add-one k), e1); above = λ _. omega (arith, h .from, e1) }
-      where
-        seventh : (k : ℕ) → t < 2 ^ (k + 1) → 6 ≤ k
-        seventh k g =
-            let a : k < 6 → ⊥ = λ q. let m = pow-mono {i = k + 1} {j = 6} (omega arith) in omega (arith, ltb-false t 128 e) in
-            omega arith
 
 pub shift-le : (t u r s : ℕ) → t ≤ u → Shift t r → Shift u s → r ≤ s
 shift-le t u r s h p q =
@@ -147,20 +145,36 @@ middle-is s =
         let k : suc m + 2 ^ s ≤ n + 2 ^ s = omega arith in
         omega (arith, leb-false ((suc m + 2 ^ s) * (suc m + 2 ^ s)) (2 ^ (2 * s + 1)) t, mul-le-mul k k)
 
+pub middle-small : (s : ℕ) → middle s < 2 ^ s
+middle-small s = middle-below s (middle s) (middle-is s .within)
+
+pub middle-none : (s : ℕ) → s ≡ 0 → middle s ≡ 0
+middle-none s e = omega (arith, middle-small s, ap (λ (n : ℕ). 2 ^ n) e)
+
 -- a number whose next one is too large is the middle
 pub middle-eq : (s m : ℕ) → (m + 2 ^ s) * (m + 2 ^ s) ≤ 2 ^ (2 * s + 1) → 2 ^ (2 * s + 1) < (suc m + 2 ^ s) * (suc m + 2 ^ s) → middle s ≡ m
 middle-eq s m h g =
     middle-unique s (middle s) m (middle-is s)
     (record { within = h; most = λ n k. let a : m < n → ⊥ = λ l. let i : suc m + 2 ^ s ≤ n + 2 ^ s = omega arith in omega (arith, mul-le-mul i i) in omega arith })
 
+-- m is the middle and the next number is not
+abbrev middleAt : ℕ → ℕ → Bool
+middleAt s m = leb ((m + 2 ^ s) * (m + 2 ^ s)) (2 ^ (2 * s + 1)) && ltb (2 ^ (2 * s + 1)) ((suc m + 2 ^ s) * (suc m + 2 ^ s))
+
+-- a constant moved right by p less the shift is the middle of every shift below n, if it passes the test at each
+pub moved-is : (k p n : ℕ) → each n (λ s. middleAt s (k / 2 ^ (p - s))) ≡ true → (s : ℕ) → s < n → k / 2 ^ (p - s) ≡ middle s
+moved-is k p n t s h =
+    let m = k / 2 ^ (p - s) in
+    let e = each-at n (λ s. middleAt s (k / 2 ^ (p - s))) t s h in
+    let w = leb ((m + 2 ^ s) * (m + 2 ^ s)) (2 ^ (2 * s + 1)) in
+    sym (middle-eq s m (leb-true _ _ (both-left w _ e)) (ltb-true _ _ (both-right w _ e)))
+
 -- ---- the code and its number
 
 pub number-is : (c : ℕ) → Stretch (codeBits c) (codeShift c) (totalNumber c)
 unfolding totalNumber
 number-is c =
-    let s = codeShift c in
-    let m = middle-below s (middle s) (middle-is s .within) in
-    record { from = omega arith; to = omega (arith, m) }
+    record { from = omega arith; to = omega (arith, middle-small (codeShift c)) }
 
 -- what a valid code's fields are
 pub record Valid (b s : ℕ) : Type 0 where
@@ -262,8 +276,7 @@ value-is t h =
 -- it lies in the total's own stretch
 value-stretch : (t : ℕ) → t ≤ limit → Stretch (bits t) (shift t) (totalNumber (totalCode t))
 value-stretch t h =
-    let s = shift t in
-    record { from = omega (arith, value-is t h); to = omega (arith, value-is t h, middle-below s (middle s) (middle-is s .within)) }
+    record { from = omega (arith, value-is t h); to = omega (arith, value-is t h, middle-small (shift t)) }
 
 -- and without a shift it is the total
 pub value-whole : (t : ℕ) → t ≤ limit → shift t ≡ 0 → totalNumber (totalCode t) ≡ t

@@ -2,7 +2,7 @@
 -- Assumes nothing.
 use mathlib.Core.Path.{_≡_}
 use mathlib.Core.Bool.{true}
-use Prim.Native.Nat.{ℕ, _+_, _-_, _*_, _^_, _≤_, _<_}
+use Prim.Native.Nat.{ℕ, _+_, _-_, _*_, _/_, _^_, _≤_, _<_}
 use Rattle.laws.specs.Search.{Root}
 use Rattle.counts_rules.specs.Limit.{limit}
 use Rattle.counts_rules.specs.Form.{base, usedClass}
@@ -50,6 +50,8 @@ pub record Totals : Type 0 where
   -- the middle is the largest whole number by its rule
   pub middle-within : (s : ℕ) → (middle s + 2 ^ s) * (middle s + 2 ^ s) ≤ 2 ^ (2 * s + 1)
   pub middle-most : (s m : ℕ) → (m + 2 ^ s) * (m + 2 ^ s) ≤ 2 ^ (2 * s + 1) → m ≤ middle s
+  -- and for each shift up to 32 the whole part of (√2 - 1) · 2^32, moved right by 32 less the shift; moved by 32, it is 0
+  pub middle-moved : (s : ℕ) → s ≤ 32 → 1779033703 / 2 ^ (32 - s) ≡ middle s
   -- the number of a valid code has that code
   pub number-has-code : (c : ℕ) → validCode c ≡ true → totalCode (totalNumber c) ≡ c
   pub number-small : (c : ℕ) → validCode c ≡ true → totalNumber c < 2 ^ 31

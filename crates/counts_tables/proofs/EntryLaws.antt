@@ -4,17 +4,16 @@ use mathlib.Core.Path.{_≡_, refl, sym}
 use mathlib.Core.Bool.{Bool, true, false, cond, _&&_, _||_}
 use Prim.Native.Nat.{ℕ, zero, suc, _≤_}
 use native.Mathlib.Omega.{arith}
-use borrow.Author.Tests.{leb-true, leb-false, ltb-true, ltb-false, eqb-true, le-leb}
+use borrow.Author.Tests.{leb-true, ltb-true, ltb-false, eqb-true, le-leb}
 use lib.Dec.{leb, ltb, eqb}
 use lib.ListN.{getD, List·getD-eq-default}
 use Rattle.laws.proofs.Tests.{both, both-left, both-right, holds-other, true-not-false}
 use Rattle.laws.proofs.Table.{at}
 use Rattle.counts_rules.specs.Form.{base, usedClass}
 use Rattle.counts_rules.specs.Class.{classStart, classNumber}
-use Rattle.counts_rules.specs.Total.{middle}
-use Rattle.counts_rules.specs.Private.Tables.{classStarts, classNumbers, shiftMiddles}
-use Rattle.counts_rules.proofs.BaseLaws.{starts-right, numbers-right, middles-right}
-use Rattle.counts_tables.specs.Entries.{startOf, numberOf, middleOf}
+use Rattle.counts_rules.specs.Private.Tables.{classStarts, classNumbers}
+use Rattle.counts_rules.proofs.BaseLaws.{starts-right, numbers-right}
+use Rattle.counts_tables.specs.Entries.{startOf, numberOf}
 
 -- a list that has the value f c wherever the test of c passes, and 0 elsewhere, reads as the choice between the two
 chosen : (t : Bool) (x y : ℕ) → (t ≡ true → x ≡ y) → (t ≡ false → x ≡ 0) → x ≡ cond t y 0
@@ -47,9 +46,3 @@ number-entry c = chosen (usedClass c) (getD classNumbers c 0) (classNumber base 
         go : (b : Bool) → ltb c 63 ≡ b → getD classNumbers c 0 ≡ 0
         go true e = eqb-true _ _ (holds-other (usedClass c) _ (at (λ k x. usedClass k || eqb x 0) classNumbers refl c (ltb-true c 63 e)) t)
         go false e = List·getD-eq-default classNumbers 0 (ltb-false c 63 e)
-
-pub middle-entry : (s : ℕ) → getD shiftMiddles s 0 ≡ middleOf s
-unfolding middleOf shiftMiddles
-middle-entry s =
-    chosen (leb s 23) (getD shiftMiddles s 0) (middle s) (λ t. sym (middles-right s (leb-true s 23 t)))
-    (λ t. List·getD-eq-default shiftMiddles 0 (leb-false s 23 t))

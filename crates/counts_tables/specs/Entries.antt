@@ -5,7 +5,6 @@ use Prim.Native.Nat.{ℕ}
 use lib.Dec.{leb}
 use Rattle.counts_rules.specs.Form.{form, base, usedClass}
 use Rattle.counts_rules.specs.Class.{classStart, classNumber}
-use Rattle.counts_rules.specs.Total.{middle}
 
 -- where a class begins; the one that begins above the limit is among them
 unfoldable pub startOf : ℕ → ℕ
@@ -13,6 +12,3 @@ startOf c = cond (leb 1 c && leb c (form .classEnd)) (classStart base c) 0
 
 unfoldable pub numberOf : ℕ → ℕ
 numberOf c = cond (usedClass c) (classNumber base c) 0
-
-unfoldable pub middleOf : ℕ → ℕ
-middleOf s = cond (leb s 23) (middle s) 0

@@ -1,9 +1,9 @@
-// The tables of the coding of counts. Each is a `match`, which is compiled to one load; a constant array would be copied at each read.
+// The tables of the classes. Each is a `match`, which is compiled to one load; a constant array would be copied at each read.
 
 ghost use mathlib.Core.Path.{_≡_};
 ghost use lib.ListN.{getD};
-ghost use Rattle.counts_rules.specs.Private.Tables.{classStarts, classNumbers, shiftMiddles};
-ghost use Rattle.counts_tables.specs.Entries.{startOf, numberOf, middleOf};
+ghost use Rattle.counts_rules.specs.Private.Tables.{classStarts, classNumbers};
+ghost use Rattle.counts_tables.specs.Entries.{startOf, numberOf};
 
 fn start_entry(class: u32) -> u32
     ensures { λ r. ⌜ r ≡ getD classStarts class 0 ⌝ }
@@ -148,38 +148,6 @@ fn number_entry(class: u32) -> u32
     }
 }
 
-fn middle_entry(shift: u32) -> u32
-    ensures { λ r. ⌜ r ≡ getD shiftMiddles shift 0 ⌝ }
-{
-    match shift {
-        0 => 0,
-        1 => 0,
-        2 => 1,
-        3 => 3,
-        4 => 6,
-        5 => 13,
-        6 => 26,
-        7 => 53,
-        8 => 106,
-        9 => 212,
-        10 => 424,
-        11 => 848,
-        12 => 1696,
-        13 => 3393,
-        14 => 6786,
-        15 => 13572,
-        16 => 27145,
-        17 => 54291,
-        18 => 108583,
-        19 => 217167,
-        20 => 434334,
-        21 => 868668,
-        22 => 1737337,
-        23 => 3474675,
-        _ => 0,
-    }
-}
-
 // Where a class from 1 to 63 begins, and 0 for any other. Class 2 begins at 2, as class 3 does, and holds no count.
 pub fn class_start(class: u32) -> u32
     ensures { λ r. ⌜ r ≡ startOf class ⌝ }
@@ -192,11 +160,4 @@ pub fn class_number(class: u32) -> u32
     ensures { λ r. ⌜ r ≡ numberOf class ⌝ }
 {
     number_entry(class)
-}
-
-// The middle of a shift from 0 to 23, and 0 for any other.
-pub fn shift_middle(shift: u32) -> u32
-    ensures { λ r. ⌜ r ≡ middleOf shift ⌝ }
-{
-    middle_entry(shift)
 }

@@ -4,13 +4,10 @@ use mathlib.Core.Path.{refl}
 use Prim.Native.Nat.{_+_, _-_, _*_}
 use native.Mathlib.Omega.{arith}
 use borrow.Author.Needs.{needs}
-use lib.Count.{leadingZeros}
-use Rattle.counts.proofs.CountLaws.{zeros-top, counted-class}
+use Rattle.counts_rules.specs.Total.{highestBit}
+use Rattle.counts.proofs.CountLaws.{counted-class}
 use Rattle.counts.proofs.class_search.Statement.{statement}
 use Rattle.counts.proofs.class_search.Tie as tie
-
-sub-least : tie.Need-sub-least
-sub-least c = omega (arith, zeros-top (c .args .count) (omega arith) (omega arith))
 
 mul-least : tie.Need-mul-least
 mul-least c = search needs
@@ -38,8 +35,8 @@ add-result-3 c = omega (arith, c .before .before .reached .ensures .1, c .before
 
 returns : tie.Need-returns
 returns c =
-    let v = c .before .before .before .args .count in
-    let m = 2 * (31 - leadingZeros 32 v) + 1 in
+    let v = c .before .before .before .before .args .count in
+    let m = 2 * highestBit v + 1 in
     omega (
       arith,
       counted-class v m _ _ _ _ _ _ (omega arith) (omega arith) (omega arith) (omega arith) (omega arith) (c .before .before .reached .ensures .0) (c .before .reached2 .ensures .0) (c .reached3 .ensures .0) refl,
@@ -49,7 +46,7 @@ pub class-search-spec : {M : Type 1} → statement M
 class-search-spec =
     tie.close
     (tie.spec
-    sub-least
+    (λ c κs. search needs)
     mul-least
     add-least
     add-reached

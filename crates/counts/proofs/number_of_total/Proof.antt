@@ -1,4 +1,4 @@
--- `counts::number_of_total` meets its contract. The fields are taken out by a shift and a mask, and their number is added up.
+-- `counts::number_of_total` meets its contract. The fields are taken out by a shift and a mask, and the number is put together from them.
 -- Assumes nothing.
 use mathlib.Core.Path.{_≡_, sym, _∙_}
 use mathlib.Core.Bool.{Bool, true, false}
@@ -7,7 +7,8 @@ use native.Mathlib.Omega.{arith}
 use borrow.Author.Needs.{needs}
 use borrow.Author.Tests.{not-true, not-false}
 use lib.Bits.{and-mask, and-comm}
-use Rattle.counts_rules.specs.Total.{validCode, totalNumber}
+use Rattle.counts_rules.specs.Total.{codeBits, codeShift, validCode, totalNumber}
+use Rattle.counts_rules.proofs.TotalLaws.{valid-says}
 use Rattle.counts.specs.declared.Meaning.the-variants.{Number, Refused}
 use Rattle.counts.specs.Reply.{totalMeaning}
 use Rattle.counts.proofs.CountLaws.{replied, turned-away, number-packed}
@@ -27,21 +28,20 @@ returns c =
 shl-t6 : tie.Need-shl-t6
 shl-t6 c = let n = c .before .before .args .code in omega (arith, and-mask n 5, and-comm n 31)
 
-valid : (c : tie.After-shift-middle) → validCode (c .before .before .before .args .code) ≡ true
-valid c = tested (c .before .before) true (not-false _ (c .before .if1 .left))
+valid : (c : tie.Else1) → validCode (c .before .before .args .code) ≡ true
+valid c = tested (c .before) true (not-false _ (c .if1 .left))
 
-add-t8 : tie.Need-add-t8
-add-t8 c =
-    let n = c .before .before .before .args .code in
-    record { fits = number-packed n (n / 32) _ _ (c .shift-middle .ensures) (omega arith) (omega (arith, and-mask n 5, and-comm n 31)) (valid c) .small }
+middle-of-requires : tie.Need-middle-of-requires
+middle-of-requires c κs =
+    let n = c .before .before .args .code in
+    omega (arith, and-mask n 5, and-comm n 31, valid-says (codeBits n) (codeShift n) (valid c) .shift-top)
 
 returns-2 : tie.Need-returns-2
 unfolding totalMeaning
 returns-2 c =
     let n = c .before .before .before .args .code in
-    replied Number (λ _. Refused) (validCode n) _ (totalNumber n) 17 (valid c)
-    (number-packed n (n / 32) _ _ (c .shift-middle .ensures) (omega arith) (omega (arith, and-mask n 5, and-comm n 31)) (valid c) .value)
+    replied Number (λ _. Refused) (validCode n) _ (totalNumber n) 17 (valid (c .before))
+    (number-packed n (n / 32) _ _ (c .middle-of .ensures) (omega arith) (omega (arith, and-mask n 5, and-comm n 31)) (valid (c .before)))
 
 pub number-of-total-spec : {M : Type 1} → statement M
-number-of-total-spec =
-    tie.close (tie.spec (λ c κs. search needs) returns shl-t6 (λ c κs. search needs) add-t8 returns-2)
+number-of-total-spec = tie.close (tie.spec (λ c κs. search needs) returns shl-t6 middle-of-requires returns-2)

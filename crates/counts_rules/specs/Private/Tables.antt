@@ -1,4 +1,4 @@
--- The words of the tables' contracts: starts, numbers and middles as lists. They are no definition of anything: proofs/BaseLaws.antt
+-- The words of the tables' contracts: starts and numbers as lists. They are no definition of anything: proofs/BaseLaws.antt
 -- shows each entry to be what the definitions give.
 -- Assumes nothing.
 use mathlib.Core.List.{List, [], _∷_}
@@ -21,9 +21,3 @@ classNumbers =
     422599 ∷ 591639 ∷ 828295 ∷ 1159614 ∷ 1623459 ∷ 2272843 ∷ 3181981 ∷ 4454773 ∷ 6236682 ∷ 8731355 ∷ 12223898 ∷ 17113457 ∷
     23958840 ∷ 33542377 ∷ 46959327 ∷ 65743059 ∷ 92040282 ∷ 128856395 ∷ 180398954 ∷ 252558536 ∷ 353581950 ∷ 495014730 ∷
     693020622 ∷ 970228872 ∷ []
-
--- the middles of shifts 0 to 23
-unfoldable pub shiftMiddles : List ℕ
-shiftMiddles =
-    0 ∷ 0 ∷ 1 ∷ 3 ∷ 6 ∷ 13 ∷ 26 ∷ 53 ∷ 106 ∷ 212 ∷ 424 ∷ 848 ∷ 1696 ∷ 3393 ∷ 6786 ∷ 13572 ∷ 27145 ∷ 54291 ∷ 108583 ∷ 217167 ∷
-    434334 ∷ 868668 ∷ 1737337 ∷ 3474675 ∷ []

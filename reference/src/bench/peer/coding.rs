@@ -1,4 +1,4 @@
-//! Coding by tables. The four calls are never inlined and go by C's rules, as the proved ones do.
+//! Coding, of classes by tables. The four calls are never inlined and go by C's rules, as the proved ones do.
 
 use crate::list::COUNT_LIMIT;
 use crate::program::QhCoded;
@@ -19,11 +19,8 @@ static NUMBER: [u32; 64] = [
     46959327, 65743059, 92040282, 128856395, 180398954, 252558536, 353581950, 495014730, 693020622, 970228872, 0,
 ];
 
-/// The middle of each shift, 0 for those not in use.
-static MIDDLE: [u32; 32] = [
-    0, 0, 1, 3, 6, 13, 26, 53, 106, 212, 424, 848, 1696, 3393, 6786, 13572, 27145, 54291, 108583, 217167, 434334,
-    868668, 1737337, 3474675, 0, 0, 0, 0, 0, 0, 0, 0,
-];
+/// The whole part of (√2 - 1) · 2^32.
+const SQRT_2_LESS_1: u32 = 1779033703;
 
 /// The class of a count from 1 to the limit: at most three above where its highest bit points.
 #[inline]
@@ -54,8 +51,10 @@ pub fn code_valid(code: u32) -> bool {
 /// What a valid code stands for.
 #[inline]
 pub fn code_number(code: u32) -> u32 {
-    let shift = code & 31;
-    ((code >> 5) << shift) + MIDDLE[shift as usize]
+    let (bits, shift) = (code >> 5, code & 31);
+    // 0 for shift 0, without a branch.
+    let middle = SQRT_2_LESS_1.checked_shr(32 - shift).unwrap_or(0);
+    (bits << shift) | middle
 }
 
 const fn answer(value: u32) -> QhCoded {
