@@ -1,5 +1,5 @@
--- What the code computes, as laws on plain numbers: leading zeros give the highest set bit, that the first guess of a class, and shifts and masks
--- the fields of a code.
+-- What the code computes, as laws on plain numbers: leading zeros give the highest set bit, the highest set bit the first guess of a class, and shifts and
+-- masks the fields of a code.
 -- Assumes nothing.
 use mathlib.Core.Path.{_≡_, refl, sym, ap, _∙_}
 use mathlib.Core.Bool.{Bool, true, false, cond}
@@ -24,7 +24,7 @@ use Rattle.counts_rules.specs.Class.{classOf, classStart, classNumber}
 use Rattle.counts_rules.specs.Total.{highestBit, shift, bits, totalCode, middle, totalNumber, codeBits, codeShift, validFields, validCode}
 use Rattle.counts_rules.proofs.ClassLaws.{Reached, class-eq, start-is, reached-up, reached-down}
 use Rattle.counts_rules.proofs.BaseLaws.{used-says, reached-by-two, reached-small}
-use Rattle.counts_rules.proofs.TotalLaws.{Valid, highest-is, highest-eq, highest-least, shift-small, bits-small, middle-small, valid-says, says-valid}
+use Rattle.counts_rules.proofs.TotalLaws.{Valid, highest-is, highest-eq, shift-small, bits-small, middle-small, valid-says, says-valid}
 use Rattle.counts_tables.specs.Entries.{startOf, numberOf}
 
 -- ---- a test decides between the answer and the refusal
@@ -171,10 +171,6 @@ unfolding numberOf
 number-in c t = simp t
 
 -- ---- the total code
-
--- from 128 on there are six bits below the highest
-pub six-below : (t : ℕ) → 128 ≤ t → 6 ≤ highestBit t
-six-below t h = omega (arith, highest-least t 7 (highestBit t) h (highest-is t (omega arith) .below))
 
 -- the bits, five places up, and the shift below them
 pub code-packed : (t s x : ℕ) → t ≤ limit → s ≡ shift t → x ≡ bits t * 32 → bitOr x s ≡ totalCode t

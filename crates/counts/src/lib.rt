@@ -2,7 +2,7 @@
 
 ghost use mathlib.Core.Path.{_≡_};
 ghost use mathlib.Core.Bool.{cond};
-ghost use Prim.Native.Nat.{_≤_, _<_};
+ghost use Prim.Native.Nat.{_≤_};
 ghost use lib.Dec.{leb, eqb};
 ghost use Rattle.counts_rules.specs.Limit.{limit, countable};
 ghost use Rattle.counts_rules.specs.Form.{base, usedClass};
@@ -14,7 +14,7 @@ ghost use Rattle.counts.specs.Reply.{codedReply, meaningReply, codedOf, 
 // The largest count that is coded.
 const LIMIT: u32 = 1073741823;
 
-// The whole part of (√2 - 1) · 2^32, which is the paper's C.
+// The whole part of (√2 - 1) · 2^32: the C of the paper's Figure 3.
 const SQRT_2_LESS_1: u32 = 1779033703;
 
 // What a count is coded as.
@@ -100,6 +100,8 @@ pub fn number_of_class(class: u32) -> Meaning
     Meaning::Number(counts_tables::class_number(class))
 }
 
+// Total codes take the steps of the paper's Figure 3, with its k as 7 and its s as 5; docs/PAPER.md has what is corrected.
+
 // The place of a total's highest set bit less 6, or 0 below 128.
 fn shift_of(total: u32) -> u32
     ensures { λ r. ⌜ r ≡ shift total ⌝ }
@@ -150,7 +152,7 @@ pub fn is_total_code(code: u32) -> bool
     is_valid(code >> 5, code & 31)
 }
 
-// The middle of a shift. Shift 0 has a branch of its own, since a word cannot be moved by 32.
+// The middle of a shift. Shift 0 has a branch of its own, since a word of 32 bits cannot be moved by 32.
 fn middle_of(shift: u32) -> u32
     requires { ⌜ shift ≤ 23 ⌝ }
     ensures { λ r. ⌜ r ≡ middle shift ⌝ }

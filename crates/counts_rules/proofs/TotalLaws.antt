@@ -1,5 +1,5 @@
 -- Laws of total codes. A shift is known by two bounds on its total, a total and its code's number lie in the same stretch
--- [bits * 2^shift, (bits + 1) * 2^shift), and all else follows from that.
+-- [bits * 2^shift, (bits + 1) * 2^shift), and all else follows from that; that a constant gives the middles is a test that antt computes.
 -- Assumes nothing.
 use mathlib.Core.Path.{_≡_, refl, sym, ap, _∙_}
 use mathlib.Core.Bool.{Bool, true, false, cond, _&&_}
@@ -44,13 +44,17 @@ highest-is t h =
         ⊎-elim (λ (e : k ≡ t). rw e (omega (arith, below-power t, pow-succ' 2 t))) (λ (l : k < t). ltb-true _ _ (p (omega arith))) (eq-or-lt-of-le (omega arith))
 
 -- no power above that of the highest bit is reached
-pub highest-least : (t n k : ℕ) → 2 ^ n ≤ t → t < 2 ^ (k + 1) → n ≤ k
+highest-least : (t n k : ℕ) → 2 ^ n ≤ t → t < 2 ^ (k + 1) → n ≤ k
 highest-least t n k p q = let a : k < n → ⊥ = λ l. let m = pow-mono {i = k + 1} {j = n} (omega arith) in omega arith in omega arith
 
 pub highest-eq : (t h : ℕ) → HighestBit t h → highestBit t ≡ h
 highest-eq t h p =
     let q = highest-is t (omega (arith, pow-pos h, p .from)) in
     omega (arith, highest-least t h (highestBit t) (p .from) (q .below), highest-least t (highestBit t) h (q .from) (p .below))
+
+-- from 128 on at least seven bits stand below the highest
+pub seven-below : (t : ℕ) → 128 ≤ t → 7 ≤ highestBit t
+seven-below t h = highest-least t 7 (highestBit t) h (highest-is t (omega arith) .below)
 
 pub shift-is : (t : ℕ) → Shift t (shift t)
 unfolding shift
@@ -62,7 +66,7 @@ shift-is t = go (ltb t 128) refl
         let l = ltb-false t 128 e in
         let h = highest-is t (omega arith) in
         let k = highestBit t in
-        let far = highest-least t 7 k l (h .below) in
+        let far = seven-below t l in
         let e1 : 2 ^ k ≡ 64 * 2 ^ (k - 6) = ap (λ (n : ℕ). 2 ^ n) {x = k} {y = 6 + (k - 6)} (omega arith) ∙ pow-add 2 6 (k - 6) in
         record { below = omega (arith, h .below, pow-succ' 2 k, ap (λ (n : ℕ). 2 ^ n) (add-one k), e1); above = λ _. omega (arith, h .from, e1) }
 
@@ -152,12 +156,12 @@ pub middle-none : (s : ℕ) → s ≡ 0 → middle s ≡ 0
 middle-none s e = omega (arith, middle-small s, ap (λ (n : ℕ). 2 ^ n) e)
 
 -- a number whose next one is too large is the middle
-pub middle-eq : (s m : ℕ) → (m + 2 ^ s) * (m + 2 ^ s) ≤ 2 ^ (2 * s + 1) → 2 ^ (2 * s + 1) < (suc m + 2 ^ s) * (suc m + 2 ^ s) → middle s ≡ m
+middle-eq : (s m : ℕ) → (m + 2 ^ s) * (m + 2 ^ s) ≤ 2 ^ (2 * s + 1) → 2 ^ (2 * s + 1) < (suc m + 2 ^ s) * (suc m + 2 ^ s) → middle s ≡ m
 middle-eq s m h g =
     middle-unique s (middle s) m (middle-is s)
     (record { within = h; most = λ n k. let a : m < n → ⊥ = λ l. let i : suc m + 2 ^ s ≤ n + 2 ^ s = omega arith in omega (arith, mul-le-mul i i) in omega arith })
 
--- m is the middle and the next number is not
+-- m is within the rule of the middle and m + 1 is not
 abbrev middleAt : ℕ → ℕ → Bool
 middleAt s m = leb ((m + 2 ^ s) * (m + 2 ^ s)) (2 ^ (2 * s + 1)) && ltb (2 ^ (2 * s + 1)) ((suc m + 2 ^ s) * (suc m + 2 ^ s))
 

@@ -50,7 +50,7 @@ pub record Totals : Type 0 where
   -- the middle is the largest whole number by its rule
   pub middle-within : (s : ℕ) → (middle s + 2 ^ s) * (middle s + 2 ^ s) ≤ 2 ^ (2 * s + 1)
   pub middle-most : (s m : ℕ) → (m + 2 ^ s) * (m + 2 ^ s) ≤ 2 ^ (2 * s + 1) → m ≤ middle s
-  -- and for each shift up to 32 the whole part of (√2 - 1) · 2^32, moved right by 32 less the shift; moved by 32, it is 0
+  -- and for each shift up to 32 the whole part of (√2 - 1) · 2^32, moved right by 32 less the shift; that is a division here, and so 0 for shift 0
   pub middle-moved : (s : ℕ) → s ≤ 32 → 1779033703 / 2 ^ (32 - s) ≡ middle s
   -- the number of a valid code has that code
   pub number-has-code : (c : ℕ) → validCode c ≡ true → totalCode (totalNumber c) ≡ c

@@ -1,7 +1,7 @@
 -- `counts::class_search` meets its contract: it is the class after the power that the highest bit reaches, and one more for each of the next three
 -- that the count reaches. Assumes nothing.
 use mathlib.Core.Path.{refl}
-use Prim.Native.Nat.{_+_, _-_, _*_}
+use Prim.Native.Nat.{_+_, _*_}
 use native.Mathlib.Omega.{arith}
 use borrow.Author.Needs.{needs}
 use Rattle.counts_rules.specs.Total.{highestBit}

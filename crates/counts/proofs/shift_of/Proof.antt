@@ -5,7 +5,7 @@ use native.Mathlib.Omega.{arith}
 use borrow.Author.Needs.{needs}
 use Rattle.laws.proofs.Tests.{by-lt}
 use Rattle.counts_rules.specs.Total.{highestBit, shift}
-use Rattle.counts.proofs.CountLaws.{six-below}
+use Rattle.counts_rules.proofs.TotalLaws.{seven-below}
 use Rattle.counts.proofs.shift_of.Statement.{statement}
 use Rattle.counts.proofs.shift_of.Tie as tie
 
@@ -14,7 +14,7 @@ unfolding shift
 returns c = let t = c .before .args .total in by-lt t 128 _ 0 (highestBit t - 6) (λ h. omega arith) (λ h. omega arith)
 
 sub-result : tie.Need-sub-result
-sub-result c = omega (arith, c .highest-bit .ensures .0, six-below (c .before .before .args .total) (omega arith))
+sub-result c = omega (arith, c .highest-bit .ensures .0, seven-below (c .before .before .args .total) (omega arith))
 
 returns-2 : tie.Need-returns-2
 unfolding shift

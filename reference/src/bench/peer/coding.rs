@@ -1,4 +1,4 @@
-//! Coding, of classes by tables. The four calls are never inlined and go by C's rules, as the proved ones do.
+//! Coding: classes by tables, totals by shifts. The four calls are never inlined and go by C's rules, as the proved ones do.
 
 use crate::list::COUNT_LIMIT;
 use crate::program::QhCoded;
@@ -52,7 +52,7 @@ pub fn code_valid(code: u32) -> bool {
 #[inline]
 pub fn code_number(code: u32) -> u32 {
     let (bits, shift) = (code >> 5, code & 31);
-    // 0 for shift 0, without a branch.
+    // A shift by 32 gives none, so shift 0 has 0.
     let middle = SQRT_2_LESS_1.checked_shr(32 - shift).unwrap_or(0);
     (bits << shift) | middle
 }
