@@ -206,10 +206,10 @@ pub validity : (c b s : ℕ) (t u : Bool) → b ≡ codeBits c → s ≡ codeShi
 validity c b s t u g h e f = rw (← g, ← h) (sym e ∙ f)
 
 -- the number as it is put together: the bits above the middle
-pub number-packed : (c b s m : ℕ) → m ≡ middle s → b ≡ codeBits c → s ≡ codeShift c → validCode c ≡ true → bitOr (b * 2 ^ s % 2 ^ 32) m ≡ totalNumber c
+pub number-packed : (c b s r m : ℕ) → m ≡ middle r → r ≡ codeShift c → b ≡ codeBits c → s ≡ codeShift c → validCode c ≡ true → bitOr (b * 2 ^ s % 2 ^ 32) m ≡ totalNumber c
 unfolding totalNumber
-number-packed c b s m f h e t =
+number-packed c b s r m f g h e t =
     let v = valid-says (codeBits c) (codeShift c) t in
     let p = mul-le-mul (v .bits-top) (pow-mono {i = codeShift c} {j = 23} (v .shift-top)) in
     let w : codeBits c * 2 ^ codeShift c % 2 ^ 32 ≡ codeBits c * 2 ^ codeShift c = mod-eq-of-lt (omega arith) in
-    rw (f, h, e, w) (or-shifted (codeBits c) (codeShift c) (middle (codeShift c)) (middle-small (codeShift c)))
+    rw (f, g, h, e, w) (or-shifted (codeBits c) (codeShift c) (middle (codeShift c)) (middle-small (codeShift c)))

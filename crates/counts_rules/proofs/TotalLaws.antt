@@ -75,7 +75,7 @@ shift-le t u r s h p q =
     let a : s < r → ⊥ = λ l. let m = pow-mono {i = suc s} {j = r} l in omega (arith, p .above (omega arith), q .below, pow-succ' 2 s) in
     omega arith
 
-pub shift-eq : (t s : ℕ) → Shift t s → shift t ≡ s
+shift-eq : (t s : ℕ) → Shift t s → shift t ≡ s
 shift-eq t s p =
     omega (arith, shift-le t t s (shift t) (omega arith) p (shift-is t), shift-le t t (shift t) s (omega arith) (shift-is t) p)
 

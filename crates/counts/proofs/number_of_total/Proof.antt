@@ -41,7 +41,7 @@ unfolding totalMeaning
 returns-2 c =
     let n = c .before .before .before .args .code in
     replied Number (λ _. Refused) (validCode n) _ (totalNumber n) 17 (valid (c .before))
-    (number-packed n (n / 32) _ _ (c .middle-of .ensures) (omega arith) (omega (arith, and-mask n 5, and-comm n 31)) (valid (c .before)))
+    (number-packed n (n / 32) _ _ _ (c .middle-of .ensures) (omega (arith, and-mask n 5, and-comm n 31)) (omega arith) (omega (arith, and-mask n 5, and-comm n 31)) (valid (c .before)))
 
 pub number-of-total-spec : {M : Type 1} → statement M
 number-of-total-spec = tie.close (tie.spec (λ c κs. search needs) returns shl-t6 middle-of-requires returns-2)
