@@ -20,6 +20,8 @@ static size_t passed, failed;
 /* Frequencies, and words of histograms. */
 static const uint32_t four_tens[] = {10, 10, 10, 10}; /* with its words, of document 01: theta 1, q 3/2 */
 static const uint32_t tens[] = {4, 1, 0xC02, 1, 0x40000204, 0x8B000000, 0x80000500, 0xC0000000, 0xC0000000};
+static const uint32_t three_zeros[] = {0, 0, 0}; /* with its words: theta 1, q 3/2 */
+static const uint32_t zeros[] = {3, 1, 0xC02, 1, 0x40000203, 0x80000000, 0x80000000, 0xC0000000, 0xC0000000};
 static const uint32_t two[] = { /* of words_rules/specs/Worked.antt: two buckets, of the entries 0 to 3 and 4 to 9 */
     10, 1, 0xC02, 2, 0x40000201, 0x810C4140, 0x80000500, 0xC0040201, 0xC0000000,
     0x40001001, 0x881C0180, 0x80000801, 0xC0000200, 0xC0000000};
@@ -50,8 +52,13 @@ static void counts(void) {
     coded("the number of class 14", qh_number_of_class(14), (QhCoded){.value = 93});
     coded("the code of 1000", qh_code_of_total(1000), (QhCoded){.value = 4003});
     coded("the number of code 4003", qh_number_of_total(4003), (QhCoded){.value = 1003});
-    /* its sentences 16 and 17 */
-    coded("the class of 0", qh_class_of(0), (QhCoded){.refusal = QH_REFUSED_COUNT});
+    /* 0 is coded as 0 and read as 0 */
+    coded("the class of 0", qh_class_of(0), (QhCoded){0});
+    coded("the number of class 0", qh_number_of_class(0), (QhCoded){0});
+    coded("the code of 0", qh_code_of_total(0), (QhCoded){0});
+    coded("the number of code 0", qh_number_of_total(0), (QhCoded){0});
+    /* sentences 16 and 17 */
+    coded("the class of 1,073,741,824", qh_class_of(1073741824), (QhCoded){.refusal = QH_REFUSED_COUNT});
     coded("the number of class 2", qh_number_of_class(2), (QhCoded){.refusal = QH_REFUSED_READING});
     coded("the code of 1,073,741,824", qh_code_of_total(1073741824), (QhCoded){.refusal = QH_REFUSED_COUNT});
     coded("the number of code 2072", qh_number_of_total(2072), (QhCoded){.refusal = QH_REFUSED_READING});
@@ -78,15 +85,14 @@ static void builds(void) {
     const uint32_t turns[] = {1, 100, 1, 100, 1, 100, 1, 100, 1};
     const uint32_t of_turns[] = {9, 1, 0xC02, 2, 0x40000201, 0x81381381, 0x8E04ECA2, 0xC0040201, 0xC0040201,
                                  0x40002201, 0x81000000, 0x80000020, 0xC0000000, 0xC0000000};
-    const uint32_t zero[] = {1, 0}, large[] = {1073741823, 1};
+    const uint32_t large[] = {1073741823, 0, 1};
     memset(out, MARK, sizeof out);
     built("10, 10, 10, 10", qh_build(LIST(four_tens), 1, 3, 2, LIST(out)), (QhBuilt){.words = 9}, tens);
     built("4, 1, 4, 1", qh_build(LIST(fours), 7, 5, 4, LIST(out)), (QhBuilt){.words = 9}, of_fours);
     built("nine entries", qh_build(LIST(turns), 1, 3, 2, LIST(out)), (QhBuilt){.words = 14}, of_turns);
-    /* document 01: the sentences 1 to 6, tested in this order */
+    built("0, 0, 0", qh_build(LIST(three_zeros), 1, 3, 2, LIST(out)), (QhBuilt){.words = 9}, zeros);
+    /* the sentences 1 and 3 to 6, tested in this order */
     built("no entry", qh_build(fours, 0, 1, 3, 2, LIST(out)), (QhBuilt){.refusal = QH_REFUSED_LIST_LENGTH}, NULL);
-    built("a frequency of 0", qh_build(LIST(zero), 0, 3, 2, LIST(out)),
-          (QhBuilt){.refusal = QH_REFUSED_ZERO_FREQUENCY}, NULL);
     built("a sum of 1,073,741,824", qh_build(LIST(large), 0, 3, 2, LIST(out)),
           (QhBuilt){.refusal = QH_REFUSED_SUM}, NULL);
     built("theta 0", qh_build(LIST(fours), 0, 124, 100, LIST(out)), (QhBuilt){.refusal = QH_REFUSED_THETA}, NULL);
@@ -119,6 +125,7 @@ static void verdicts(void) {
     verdict("later-start", qh_check(LIST(forty), LIST(one)), (QhVerdict){.sort = QH_SORT_PART, .start = 1, .end = 4});
     verdict("next-total", qh_check(LIST(twos), LIST(wrong_total)),
             (QhVerdict){.sort = QH_SORT_BUCKET, .start = 2, .end = 4});
+    verdict("zeros-taken", qh_check(LIST(three_zeros), LIST(zeros)), (QhVerdict){.accepted = 1});
     verdict("no-entry", qh_check(four_tens, 0, tens, 0), (QhVerdict){.refusal = QH_REFUSED_LIST_LENGTH});
     verdict("no-words", qh_check(four_tens, 1, tens, 0), (QhVerdict){.refusal = QH_REFUSED_HEAD});
     verdict("other-length", qh_check(four_tens, 1, LIST(tens)), (QhVerdict){.refusal = QH_REFUSED_OTHER_LIST});
@@ -138,6 +145,8 @@ static void estimates(void) {
     estimated("4 to 5 of tens", qh_estimate(LIST(tens), 4, 5), (QhEstimate){.refusal = QH_REFUSED_RANGE});
     estimated("3 to 2 of tens, turned", qh_estimate(LIST(tens), 3, 2), (QhEstimate){.refusal = QH_REFUSED_RANGE});
     estimated("4 to 5 of eight words", qh_estimate(tens, 8, 4, 5), (QhEstimate){.refusal = QH_REFUSED_WORD_COUNT});
+    estimated("0 to 3 of zeros", qh_estimate(LIST(zeros), 0, 3), (QhEstimate){.estimate = 1});
+    estimated("3 to 3 of zeros", qh_estimate(LIST(zeros), 3, 3), (QhEstimate){.estimate = 0});
     estimated("2 to 10 of two", qh_estimate(LIST(two), 2, 10), (QhEstimate){.estimate = 135});
     estimated("3 to 5 of two", qh_estimate(LIST(two), 3, 5), (QhEstimate){.estimate = 7});
 }
@@ -185,6 +194,8 @@ static void sheet(const char *what, const char *input, const char *expected) {
 static void sheets(void) {
     sheet("the sheet of 1, 100", "1\n3\n2\n1\n100\n",
           "codes 2 theta 1 q 3/2 buckets 1\nbucket 0 2 total 3232 101\n0 1 code 1 count 1\n1 2 code 14 count 93\n");
+    sheet("the sheet of 0, 0, 0", "1\n3\n2\n0\n0\n0\n",
+          "codes 3 theta 1 q 3/2 buckets 1\nbucket 0 3 total 0 0\n0 3 code 0 count 0\n");
     sheet("the sheet of q 124/100", "1\n124\n100\n1\n", "refused 5\n");
     sheet("the sheet of no entry", "1\n3\n2\n", "refused 18\n");
 }

@@ -8,7 +8,8 @@
  *
  * The terms
  *   entry      the place of a word form in the list, 0 to d - 1, where d is the length of the list
- *   range      from x to y: the entries from x up to y, without y; its count is the sum of their frequencies
+ *   range      from x to y: the entries from x up to y, without y; its count is the sum of their frequencies, each of
+ *              which is how often a form occurs, and 0 if it no longer does
  *   theta, q   how close the estimates come: theta is 1 to 1,048,575; q is qn / qd, both 1 to 1,000, at least 5/4
  *   bucket     a stretch of the list with a total, in eight bucketlets, each with a number for its entries together
  *   histogram  a list of words, four at the head and five for each bucket (the repository's docs/METHOD.md, "Words").
@@ -72,7 +73,6 @@ extern "C" {
 /* The refusals by name. */
 enum {
     QH_REFUSED_LIST_LENGTH = 1,
-    QH_REFUSED_ZERO_FREQUENCY = 2,
     QH_REFUSED_SUM = 3,
     QH_REFUSED_THETA = 4,
     QH_REFUSED_Q = 5,
@@ -95,7 +95,6 @@ enum {
 static inline const char *qh_sentence(uint32_t refusal) {
     switch (refusal) {
     case QH_REFUSED_LIST_LENGTH: return "The frequency list has no entry or more than 65,536.";
-    case QH_REFUSED_ZERO_FREQUENCY: return "A frequency is 0.";
     case QH_REFUSED_SUM: return "The frequencies sum to more than 1,073,741,823.";
     case QH_REFUSED_THETA: return "Theta is outside its limits.";
     case QH_REFUSED_Q: return "q is outside its limits.";
@@ -105,12 +104,12 @@ static inline const char *qh_sentence(uint32_t refusal) {
     case QH_REFUSED_BUCKET_WORD: return "A bucket word has a wrong kind or a set bit outside its fields.";
     case QH_REFUSED_START: return "The first start is not 0, or a start is not above the one before it, or not below d.";
     case QH_REFUSED_WIDTH: return "The listed widths exceed their bucket, or the free width is above 4,095.";
-    case QH_REFUSED_CODE: return "A class is 2 or 63, a class is 0 where the width is not or the reverse, or a total code is not valid.";
+    case QH_REFUSED_CODE: return "A class is 2 or 63, a width is 0 and its class is not, or a total code is not valid; code 0 is valid exactly when all eight classes are 0.";
     case QH_REFUSED_OTHER_LIST: return "The frequency list is not d long.";
     case QH_REFUSED_RANGE: return "x is above y, or y is above d.";
     case QH_REFUSED_ENTRY: return "The entry is not below d.";
-    case QH_REFUSED_COUNT: return "A count to be coded, as class or total, is 0 or above 1,073,741,823.";
-    case QH_REFUSED_READING: return "A class to be read is 0, 2, 63 or above, or a total code to be read is not valid.";
+    case QH_REFUSED_COUNT: return "A count to be coded, as class or total, is above 1,073,741,823.";
+    case QH_REFUSED_READING: return "A class to be read is 2, 63 or above, or a total code to be read is not valid.";
     case QH_REFUSED_INPUT: return "The input is not theta, qn, qd and 1 to 4,096 frequencies: decimal numbers below 4,294,967,296 without leading zeros, one a line, each line ended by a line feed.";
     default: return NULL;
     }
@@ -128,7 +127,7 @@ typedef struct {
 
 /* Writes the histogram of a list to the start of out, each bucketlet widened entry by entry as long as it fits theta and
  * q and the layout has room; the words of out after it are as they were. An out of QH_WORDS_FOR(freqs_len) words is
- * never too short. Refused with 1 to 6. */
+ * never too short. A frequency may be 0. Refused with 1, then 3 to 6. */
 QhBuilt qh_build(const uint32_t *freqs, size_t freqs_len, uint32_t theta, uint32_t qn, uint32_t qd,
                  uint32_t *out, size_t out_len);
 
@@ -150,7 +149,7 @@ typedef struct {
 /* Whether the histogram is accepted for the list: the number of each bucketlet and the total of each bucket is within
  * the factor q of the count, and so is, for a part of a bucketlet, its share of the number, unless it and the count are
  * at most theta. What fails is looked for bucket by bucket: in each bucketlet by start and then by end, the total last.
- * Refused with 1 to 3, then 7 to 13. */
+ * Refused with 1, 3, then 7 to 13. */
 QhVerdict qh_check(const uint32_t *freqs, size_t freqs_len, const uint32_t *words, size_t words_len);
 
 typedef struct {
@@ -159,8 +158,8 @@ typedef struct {
 } QhEstimate;
 
 /* The estimated count of the range from x to y: the totals of the buckets that lie wholly in it, the numbers of the
- * other bucketlets that do, and the share of each bucketlet that it cuts, all in one sum that is rounded up; 0 if it is
- * empty. Refused with 7 to 12, then 14. */
+ * other bucketlets that do, and the share of each bucketlet that it cuts, all in one sum that is rounded up, and 1 where
+ * the sum is 0; but 0 if the range is empty. Refused with 7 to 12, then 14. */
 QhEstimate qh_estimate(const uint32_t *words, size_t words_len, uint32_t x, uint32_t y);
 
 typedef struct {
@@ -176,11 +175,11 @@ typedef struct {
     uint32_t value;
 } QhCoded;
 
-/* How counts are written small. A count v has the class c with (7/5)^(c-1) <= v < (7/5)^c, which is 1 or 3 to 62: no
- * whole number lies in class 2. Such a class stands for the largest whole r with r^2 <= (7/5)^(2c-1). A total has the
- * code 32 * b + s: from 128 on b is its seven highest bits and s the number of bits below them, else b is the total and
- * s is 0; the code stands for b * 2^s + m with the largest whole m for which (m + 2^s)^2 <= 2^(2s+1). The two that code
- * are refused with 16, the two that read with 17. */
+/* How counts are written small. 0 has class 0 and code 0, which stand for 0. A count v from 1 up has the class c with
+ * (7/5)^(c-1) <= v < (7/5)^c, which is 1 or 3 to 62: no whole number lies in class 2. Such a class stands for the
+ * largest whole r with r^2 <= (7/5)^(2c-1). A total has the code 32 * b + s: from 128 on b is its seven highest bits and
+ * s the number of bits below them, else b is the total and s is 0; the code stands for b * 2^s + m with the largest whole
+ * m for which (m + 2^s)^2 <= 2^(2s+1). The two that code are refused with 16, the two that read with 17. */
 QhCoded qh_class_of(uint32_t count);
 QhCoded qh_number_of_class(uint32_t class_);
 QhCoded qh_code_of_total(uint32_t total);
@@ -197,8 +196,8 @@ QhCoded qh_number_of_total(uint32_t code);
  * those after them are as they were. The input is decimal numbers below 4,294,967,296, one per line, without leading
  * zeros, each line ended by a line feed: theta, qn, qd and 1 to 4,096 frequencies. The sheet has a line of d, theta, q
  * and the number of buckets; for each bucket one of its start, end, total code and the code's number; and after it, for
- * each of its bucketlets that is not empty, one of its start, end, class and the class's number. Where the input is not
- * so (18), or qh_build would refuse what it holds (2 to 5), the sheet is one line, `refused` and the number. */
+ * each of its bucketlets that holds an entry, one of its start, end, class and the class's number. Where the input is not
+ * so (18), or qh_build would refuse what it holds (3 to 5), the sheet is one line, `refused` and the number. */
 size_t qh_sheet(const uint8_t *input, size_t input_len, uint8_t out[QH_SHEET_ROOM]);
 
 #ifdef __cplusplus

@@ -139,7 +139,7 @@ fn next_bucket(frequencies: &[u32], start: usize, grow: impl Fn(&[u32], usize) -
     bucket
 }
 
-/// Refusals 1 to 5.
+/// Refusals 1 and 3 to 5.
 pub fn fault(frequencies: &[u32], bound: Bound) -> Result<(), u32> {
     list_fault(frequencies)?;
     if !bound.theta_within_limits() {
@@ -165,7 +165,7 @@ pub fn lend(words: &[u32], lent: &mut [u32]) -> Result<usize, u32> {
     Ok(words.len())
 }
 
-/// Builds into a lent list; refusals 1 to 6.
+/// Builds into a lent list; refusals 1 and 3 to 6.
 pub fn build(way: Way, frequencies: &[u32], bound: Bound, lent: &mut [u32]) -> Result<usize, u32> {
     lend(&write(&histogram(way, frequencies, bound)?), lent)
 }

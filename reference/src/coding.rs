@@ -63,28 +63,29 @@ pub fn class_start(class: u32) -> u32 {
     classes().first[class as usize]
 }
 
-/// Whether a class may stand in a histogram, class 0 being that of an empty bucketlet.
+/// Whether a class may stand in a histogram.
 pub fn class_in_use(class: u32) -> bool {
     class != 2 && class <= LAST_CLASS
 }
 
-/// What a class in use stands for, with 0 for class 0.
+/// What a class in use stands for.
 pub fn class_number(class: u32) -> u32 {
     classes().number[class as usize]
 }
 
-/// The class of a count from 1 to the limit.
+/// The class of a count up to the limit: as many classes as begin at it or below.
 pub fn class_for(count: u64) -> u32 {
-    let later = |&&first: &&u32| u64::from(first) <= count;
-    classes().first[2..].iter().take_while(later).count() as u32 + 1
+    let begun = |&&first: &&u32| u64::from(first) <= count;
+    classes().first[1..].iter().take_while(begun).count() as u32
 }
 
-/// The code of a total from 1 to the limit.
+/// The code of a total up to the limit.
 pub fn code_for(total: u64) -> u32 {
     let shift = if total < 128 { 0 } else { total.ilog2() - 6 };
     (total >> shift) as u32 * 32 + shift
 }
 
+/// Whether a code is valid beside any classes, as code 0 is not.
 pub fn code_valid(code: u32) -> bool {
     let (bits, shift) = (code / 32, code % 32);
     match shift {
@@ -94,7 +95,7 @@ pub fn code_valid(code: u32) -> bool {
     }
 }
 
-/// What a valid code stands for.
+/// What a valid code or code 0 stands for.
 pub fn code_number(code: u32) -> u32 {
     let (bits, shift) = (code / 32, code % 32);
     (bits << shift) + middle(shift)
@@ -112,7 +113,7 @@ fn middle(shift: u32) -> u32 {
 
 /// Refusal 16.
 fn codable(count: u32) -> Result<u64, u32> {
-    let within = (1..=COUNT_LIMIT).contains(&count);
+    let within = count <= COUNT_LIMIT;
     within.then_some(count.into()).ok_or(16)
 }
 
@@ -126,11 +127,11 @@ pub fn code_of_total(total: u32) -> Result<u32, u32> {
 
 /// Refusal 17.
 pub fn number_of_class(class: u32) -> Result<u32, u32> {
-    let readable = class != 0 && class_in_use(class);
-    readable.then(|| class_number(class)).ok_or(17)
+    class_in_use(class).then(|| class_number(class)).ok_or(17)
 }
 
 /// Refusal 17.
 pub fn number_of_total(code: u32) -> Result<u32, u32> {
-    code_valid(code).then(|| code_number(code)).ok_or(17)
+    let readable = code == 0 || code_valid(code);
+    readable.then(|| code_number(code)).ok_or(17)
 }

@@ -1,4 +1,4 @@
-//! "Asking", the estimator: one exact sum, rounded up once.
+//! "Asking", the estimator: one exact sum, rounded up once, and 1 where it is 0.
 
 use crate::coding::{class_number, code_number};
 use crate::words::{read, Bucket, Histogram};
@@ -67,7 +67,13 @@ pub fn asked(words: &[u32], x: u32, y: u32) -> Result<Histogram, u32> {
     Ok(histogram)
 }
 
+/// The estimate of a range that lies within the list. Only the empty range is estimated at 0.
+pub fn answered(histogram: &Histogram, x: u32, y: u32) -> u64 {
+    let least = u64::from(x < y);
+    exact(histogram, x, y).rounded_up().max(least)
+}
+
 pub fn estimate(words: &[u32], x: u32, y: u32) -> Result<u64, u32> {
     let histogram = asked(words, x, y)?;
-    Ok(exact(&histogram, x, y).rounded_up())
+    Ok(answered(&histogram, x, y))
 }

@@ -3,7 +3,7 @@
 use crate::list::Bound;
 
 impl Bound {
-    /// Neither number is more than q times the other.
+    /// Neither number is more than q times the other, as of 0 and 0 neither is.
     pub fn within_q(self, a: u64, b: u64) -> bool {
         let (qn, qd) = (u64::from(self.qn), u64::from(self.qd));
         qd * a <= qn * b && qd * b <= qn * a

@@ -42,13 +42,10 @@ pub fn count(part: &[u32]) -> u64 {
     part.iter().map(|&frequency| u64::from(frequency)).sum()
 }
 
-/// Refusals 1 to 3.
+/// Refusals 1 and 3; a frequency of 0 is none.
 pub fn list_fault(frequencies: &[u32]) -> Result<(), u32> {
     if frequencies.is_empty() || frequencies.len() > MOST_ENTRIES {
         return Err(1);
-    }
-    if frequencies.contains(&0) {
-        return Err(2);
     }
     if count(frequencies) > u64::from(COUNT_LIMIT) {
         return Err(3);

@@ -177,10 +177,12 @@ fn bucket(group: &[u32], start: u32, end: u32) -> Option<Bucket> {
     })
 }
 
-/// Refusal 12 of one bucket.
+/// Refusal 12 of one bucket. Class 0 may have any width, but a width of 0 has no other class.
 fn coded(bucket: &Bucket) -> bool {
     let mut pairs = bucket.classes.iter().zip(&bucket.widths);
-    pairs.all(|(&class, &width)| class_in_use(class) && (class == 0) == (width == 0)) && code_valid(bucket.total)
+    let zeros = bucket.classes == [0; 8] && bucket.total == 0;
+    pairs.all(|(&class, &width)| class_in_use(class) && (width > 0 || class == 0))
+        && (zeros || code_valid(bucket.total))
 }
 
 /// Writes a histogram whose fields keep their widths in bits.

@@ -24,7 +24,7 @@ fn a_right_program_passes() {
 
 #[test]
 fn every_fault_is_found_in_its_call_and_nowhere_else() {
-    for (fault, call) in FAULTS {
+    for &(fault, call) in FAULTS {
         let (passed, out) = compared(&Broken(fault));
         assert!(!passed, "{fault:?} was not found");
         assert!(!out.ends_with(" 0 failed\n"), "{fault:?}: {out}");

@@ -25,8 +25,8 @@ fn ways_agree_on_small_lists() {
 
 #[test]
 fn ways_agree_on_all_tiny_lists() {
-    for number in 0..6usize.pow(4) {
-        let frequency = |place| [1, 2, 3, 5, 8, 21][number / 6usize.pow(place) % 6];
+    for number in 0..7usize.pow(4) {
+        let frequency = |place| [0, 1, 2, 3, 5, 8, 21][number / 7usize.pow(place) % 7];
         let frequencies: Vec<u32> = (0..4).map(frequency).collect();
         for theta in [1, 2, 5, 9, 22] {
             for (qn, qd) in [(5, 4), (3, 2), (2, 1)] {

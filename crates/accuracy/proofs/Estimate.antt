@@ -21,11 +21,11 @@ use Rattle.estimate_rules.proofs.SpanLaws.{exact-holds}
 use Rattle.accuracy.proofs.Split.{Split, split-near, split-more, split-as}
 use Rattle.accuracy.proofs.Ranges.{countIn, count-some, count-all, Spanned, spanned-joined}
 use Rattle.accuracy.proofs.Pieces.{bucketlet-spanned}
-use Rattle.accuracy.proofs.AcceptedLaws.{Fitting}
+use Rattle.fit.proofs.AcceptedLaws.{Fitting}
 
 module _ (fs ws : List ℕ) (ok : Fitting fs ws) (x y : ℕ) (ordered : x ≤ y) where
   -- what the total of a bucket that lies wholly inside is near
-  total-count : (a e : ℕ) → x ≤ a → e ≤ y → a < e → countIn fs x y a e ≡ partSum a (e - a) fs
+  pub total-count : (a e : ℕ) → x ≤ a → e ≤ y → a < e → countIn fs x y a e ≡ partSum a (e - a) fs
   total-count a e l r s =
       let from : max x a ≡ a = omega arith in
       let to : min y e ≡ e = omega arith in

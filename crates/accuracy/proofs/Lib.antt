@@ -3,8 +3,8 @@ pub mod Parts
 pub mod Split
 pub mod Ranges
 pub mod Pieces
-pub mod AcceptedLaws
 pub mod Estimate
 pub mod Uncut
+pub mod NoneLeft
 pub mod OneBucketlet
 pub mod Proved

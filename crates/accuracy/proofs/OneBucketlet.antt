@@ -24,7 +24,7 @@ use Rattle.estimate_rules.proofs.SpanLaws.{bucketlets-rise, first-bucketlet, la
 use Rattle.accuracy.proofs.Split.{Split, split-as}
 use Rattle.accuracy.proofs.Ranges.{countIn, count-all}
 use Rattle.accuracy.proofs.Pieces.{bucketlet-above}
-use Rattle.accuracy.proofs.AcceptedLaws.{Fitting}
+use Rattle.fit.proofs.AcceptedLaws.{Fitting}
 use Rattle.accuracy.proofs.Estimate.{total-split}
 
 module _ (x y : ℕ) where

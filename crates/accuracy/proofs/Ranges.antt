@@ -26,7 +26,7 @@ nearest-rises x y t u h = omega arith
 abbrev pub countIn : List ℕ → ℕ → ℕ → ℕ → ℕ → ℕ
 countIn fs x y a e = partSum (nearest x y a) (nearest x y e - nearest x y a) fs
 
-count-join : (fs : List ℕ) (x y a b e : ℕ) → a ≤ b → b ≤ e → countIn fs x y a b + countIn fs x y b e ≡ countIn fs x y a e
+pub count-join : (fs : List ℕ) (x y a b e : ℕ) → a ≤ b → b ≤ e → countIn fs x y a b + countIn fs x y b e ≡ countIn fs x y a e
 count-join fs x y a b e h k =
     let up = nearest-rises x y a b h in
     let next = nearest-rises x y b e k in
@@ -37,6 +37,9 @@ count-join fs x y a b e h k =
     ap (λ (j : ℕ). partSum i n fs + partSum j (nearest x y e - nearest x y b) fs) (sym p)
     ∙ sym (part-add i n (nearest x y e - nearest x y b) fs)
     ∙ ap (λ (l : ℕ). partSum i l fs) q
+
+pub count-same : (fs : List ℕ) (x y a : ℕ) → countIn fs x y a a ≡ 0
+count-same fs x y a = let z : nearest x y a - nearest x y a ≡ 0 = omega arith in ap (λ (n : ℕ). partSum (nearest x y a) n fs) z
 
 -- where the range and the span have no entry in common, and where they have some
 module _ (x y a e : ℕ) (ordered : x ≤ y) where
@@ -79,8 +82,7 @@ module _ (pn pd theta u v : ℕ) (fs : List ℕ) (x y : ℕ) where
 
   spanned-none : (a : ℕ) → Spanned a a nothing
   spanned-none a =
-      let z : 0 ≡ nearest x y a - nearest x y a = omega arith in
-      subst (λ (n : ℕ). Split pn pd theta (u * cuts x a a + v * cuts y a a) (partSum (nearest x y a) n fs) nothing) z
+      subst (λ (n : ℕ). Split pn pd theta (u * cuts x a a + v * cuts y a a) n nothing) (sym (count-same fs x y a))
       (split-more (split-nothing pn pd theta) (u * cuts x a a + v * cuts y a a) (omega arith))
 
   spanned-join : (a b e : ℕ) (s t : Fraction) → a ≤ b → b ≤ e → Spanned a b s → Spanned b e t → Spanned a e (plus s t)

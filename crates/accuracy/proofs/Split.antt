@@ -6,8 +6,8 @@ use Prim.Native.Nat.{ℕ, zero, suc, _+_, _-_, _*_, _≤_, _<_}
 use native.Mathlib.Nat.{mul-le-mul-right, mul-pos, mul-lt-mul-of-pos-right, le-of-mul-le-mul-right, lt-of-mul-lt-mul-right}
 use native.Mathlib.Omega.{arith}
 use Rattle.estimate_rules.specs.declared.Fraction.{Fraction}
-use Rattle.estimate_rules.specs.Fraction.{nothing, plus, rounded}
-use Rattle.estimate_rules.proofs.FractionLaws.{numerator, rounded-reaches, rounded-tight}
+use Rattle.estimate_rules.specs.Fraction.{nothing, plus, rounded, numerator}
+use Rattle.estimate_rules.proofs.FractionLaws.{rounded-reaches, rounded-tight}
 use Rattle.accuracy.specs.Claims.{Within}
 use Rattle.accuracy.proofs.Parts.{Parts, Factor, factor, parts-more, parts-scale, parts-add}
 

@@ -13,9 +13,9 @@ use Rattle.words_rules.specs.Decoded.{bucketAt, bucketletStart, widthAt, number
 use Rattle.words_rules.proofs.EntryLaws.{bucketlet-end}
 use Rattle.fit.specs.Accepted.{qualityOf}
 use Rattle.estimate_rules.specs.declared.Fraction.{Fraction}
-use Rattle.estimate_rules.specs.Fraction.{rounded}
+use Rattle.estimate_rules.specs.Fraction.{rounded, numerator}
 use Rattle.estimate_rules.specs.Exact.{inside, bucketletPiece, bucketPiece, exact}
-use Rattle.estimate_rules.proofs.FractionLaws.{numerator, rounded-whole, sum-whole}
+use Rattle.estimate_rules.proofs.FractionLaws.{rounded-whole, sum-whole}
 use Rattle.estimate_rules.proofs.ExactLaws.{bucket-whole, bucket-parts}
 use Rattle.estimate_rules.proofs.CutLaws.{cuts, cuts-none}
 use Rattle.accuracy.specs.Claims.{CutsNone}
@@ -23,7 +23,7 @@ use Rattle.accuracy.proofs.Parts.{Factor, factor-sure}
 use Rattle.accuracy.proofs.Split.{split-more}
 use Rattle.accuracy.proofs.Ranges.{Spanned}
 use Rattle.accuracy.proofs.Pieces.{bucketlet-whole}
-use Rattle.accuracy.proofs.AcceptedLaws.{Fitting}
+use Rattle.fit.proofs.AcceptedLaws.{Fitting}
 use Rattle.accuracy.proofs.Estimate.{BucketletSplit, range-split}
 
 module _ (fs ws : List ℕ) (ok : Fitting fs ws) (x y : ℕ) (ordered : x ≤ y) (from : CutsNone ws x) (to : CutsNone ws y) where

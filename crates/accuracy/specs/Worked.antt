@@ -1,10 +1,12 @@
--- Accepted histograms that show what the factor needs, with q 5/4: a smaller factor, or a smaller multiple of theta, would not hold.
+-- Accepted histograms that show what the factor needs, with q 5/4: a smaller factor, or a smaller multiple of theta, would not hold. And
+-- words that no longer occur.
 -- Assumes nothing.
 use mathlib.Core.Path.{_≡_}
 use mathlib.Core.Bool.{true, false}
 use mathlib.Core.List.{List, [], _∷_}
 use Prim.Native.Nat.{ℕ, _-_, _*_}
 use lib.Dec.{leb, ltb}
+use Rattle.words_rules.specs.Worked.{zeros}
 use Rattle.fit.specs.Accepted.{accepted}
 use Rattle.accuracy.specs.Claims.{count, answer}
 
@@ -34,3 +36,6 @@ pub record Worked : Type 0 where
   pub below-theta : ltb (2 * 98) 197 ∷ ltb (3 * 98) 197 ∷ leb (4 * (3 - 2) * 197) (5 * 3 * 38) ∷ [] ≡ true ∷ false ∷ false ∷ []
   -- k 100: 116 is above 100 theta; it is within q times k/(k - 2) of 93, and not within k/(k - 2)
   pub needs-q : ltb (100 * 1) 116 ∷ leb (4 * (100 - 2) * 116) (5 * 100 * 93) ∷ leb ((100 - 2) * 116) (100 * 93) ∷ [] ≡ true ∷ true ∷ false ∷ []
+  -- of words that no longer occur, whole and cut, the count is 0 and the answer 1
+  pub zeros-accepted : accepted (0 ∷ 0 ∷ 0 ∷ []) zeros ≡ true
+  pub zeros-answered : count (0 ∷ 0 ∷ 0 ∷ []) 0 3 ∷ answer zeros 0 3 ∷ count (0 ∷ 0 ∷ 0 ∷ []) 1 2 ∷ answer zeros 1 2 ∷ [] ≡ 0 ∷ 1 ∷ 0 ∷ 1 ∷ []

@@ -3,11 +3,10 @@
 use mathlib.Core.Path.{_≡_, sym}
 use mathlib.Core.Bool.{Bool, true, false}
 use mathlib.Core.List.{List}
-use Prim.Native.Nat.{ℕ, suc, _+_, _*_, _≤_, _<_}
+use Prim.Native.Nat.{ℕ, suc, _*_, _≤_, _<_}
 use native.Mathlib.Omega.{arith}
 use borrow.Author.Tests.{leb-true, le-leb}
 use lib.Dec.{leb}
-use lib.ListN.{length}
 use Rattle.laws.specs.Sums.{partSum}
 use Rattle.laws.proofs.Tests.{both, both-left, both-right, same-test}
 use Rattle.laws.proofs.SearchLaws.{largest-unique}
@@ -16,16 +15,16 @@ use Rattle.list_rules.specs.declared.Quality.{Quality}
 use Rattle.fit.proofs.FitLaws.{says-near}
 use Rattle.list_rules.specs.Private.Sound.{Sound}
 use Rattle.build_rules.specs.Width.{fitsAt, width}
-use Rattle.build_rules.proofs.WidthLaws.{count-some, count-small, value-near}
+use Rattle.build_rules.proofs.WidthLaws.{count-small, value-near}
 use Rattle.build_bounds.specs.declared.Bounds.{Bounds}
 use Rattle.build_bounds.specs.Private.Growing.{Bounding, passes}
 use Rattle.build_bounds.proofs.GrowthLaws.{fits-tests, tests-fit}
 
 module _ (q : Quality) (fs : List ℕ) (a : ℕ) (sound : Sound fs q) where
-  pub test-fits : (w s : ℕ) (b : Bounds) → 1 ≤ w → a + w ≤ length fs → s ≡ classValue (partSum a w fs) → Bounding q fs a w 0 b
+  pub test-fits : (w s : ℕ) (b : Bounds) → s ≡ classValue (partSum a w fs) → Bounding q fs a w 0 b
       → passes q b s w ≡ fitsAt q fs a w
   unfolding fitsAt
-  test-fits w s b h l e k = rw e (same-test (passes q b v w) (fitsAt q fs a w) there back)
+  test-fits w s b e k = rw e (same-test (passes q b v w) (fitsAt q fs a w) there back)
     where
       v : ℕ
       v = classValue (partSum a w fs)
@@ -45,7 +44,7 @@ module _ (q : Quality) (fs : List ℕ) (a : ℕ) (sound : Sound fs q) where
       there : passes q b v w ≡ true → fitsAt q fs a w ≡ true
       there t =
           tests-fit q fs a (sound .qd-some) above w v (b .low .top) (b .low .bottom) (b .up .top) (b .up .bottom) (k .kept)
-          (says-near q (partSum a w fs) (w * v) w (value-near q fs sound (partSum a w fs) w (count-some q fs sound a w h l) (count-small q fs sound a w)))
+          (says-near q (partSum a w fs) (w * v) w (value-near q fs sound (partSum a w fs) w (count-small q fs sound a w)))
           (record { lower = omega (arith, lower t); upper = omega (arith, upper t) })
 
       back : fitsAt q fs a w ≡ true → passes q b v w ≡ true

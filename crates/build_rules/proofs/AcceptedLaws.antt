@@ -35,7 +35,7 @@ use Rattle.build_rules.specs.Width.{fitsAt}
 use Rattle.build_rules.specs.Bucket.{bucketWidths, bucketFrom}
 use Rattle.build_rules.specs.Words.{stretch, words}
 use Rattle.build_rules.proofs.WidthLaws.{count-small, width-fits}
-use Rattle.build_rules.proofs.BucketLaws.{placeOf, widths-length, width-at, class-of-count}
+use Rattle.build_rules.proofs.BucketLaws.{placeOf, widths-length, width-at, class-at}
 use Rattle.build_rules.proofs.ReadBack.{startOf, entries-are, theta-is, qn-is, qd-is, buckets-are, start-is, span-is, bucket-is, readable-words}
 
 module _ (q : Quality) (fs : List ℕ) (sound : Sound fs q) where
@@ -49,7 +49,7 @@ module _ (q : Quality) (fs : List ℕ) (sound : Sound fs q) where
       ⊎-elim
       (λ (e : 0 ≡ w). holds-left (eqb w 0) _ (eq-eqb w 0 (sym e)))
       (λ (l : 0 < w).
-      let c = class-of-count fs a ws k (omega (arith, widths-length q fs end a)) l in
+      let c = class-at fs a ws k (omega (arith, widths-length q fs end a)) in
       holds-right (eqb w 0) _ (ap (λ (c : ℕ). bucketletFits q fs place w (classNumber base c)) c ∙ width-fits q fs place _ w (width-at q fs end a k h) l))
       (eq-or-lt-of-le (omega arith))
 

@@ -7,14 +7,14 @@ use mathlib.Core.List.{List, [], _∷_}
 use Prim.Native.Nat.{ℕ, zero, suc, _+_, _-_, _≤_, _<_}
 use native.Mathlib.Nat.{add-zero, le-trans, le-of-suc-le-suc, not-suc-le-zero}
 use native.Mathlib.Omega.{arith}
-use borrow.Author.Tests.{leb-true, eq-eqb, ne-eqb}
+use borrow.Author.Tests.{leb-true}
 use lib.Dec.{leb}
 use lib.ListN.{length, getD}
 use Rattle.laws.specs.Sums.{sum, prefixSum, partSum}
 use Rattle.laws.proofs.Table.{at}
 use Rattle.laws.proofs.SumsLaws.{getD-le-sum, prefix-suc, prefix-all}
 use Rattle.counts_rules.specs.Form.{base}
-use Rattle.counts_rules.specs.Class.{classOf}
+use Rattle.counts_rules.proofs.ClassLaws.{class-none}
 use Rattle.words_rules.specs.Limits.{maxListed, maxWidth}
 use Rattle.list_rules.specs.declared.Quality.{Quality}
 use Rattle.list_rules.specs.Private.Sound.{Sound}
@@ -141,10 +141,8 @@ class-at fs a (w ∷ ws) (suc k) h =
     let e : a + w + prefixSum k ws ≡ a + (w + prefixSum k ws) = omega arith in
     class-at fs (a + w) ws k (le-of-suc-le-suc h) ∙ ap (λ (a : ℕ). bucketletClass fs a (getD ws k 0)) e
 
--- the class of an empty bucketlet, and of one that holds an entry
+-- that of an empty bucketlet is 0
 pub class-of-none : (fs : List ℕ) (a : ℕ) (ws : List ℕ) (k : ℕ) → k < length ws → getD ws k 0 ≡ 0 → getD (classesFrom fs a ws) k 0 ≡ 0
-class-of-none fs a ws k h e = rw (class-at fs a ws k h, eq-eqb (getD ws k 0) 0 e)
-
-pub class-of-count : (fs : List ℕ) (a : ℕ) (ws : List ℕ) (k : ℕ) → k < length ws → 1 ≤ getD ws k 0
-    → getD (classesFrom fs a ws) k 0 ≡ classOf base (partSum (a + prefixSum k ws) (getD ws k 0) fs)
-class-of-count fs a ws k h l = rw (class-at fs a ws k h, ne-eqb (getD ws k 0) 0 (λ z. omega arith))
+class-of-none fs a ws k h e =
+    let place = a + prefixSum k ws in
+    class-at fs a ws k h ∙ class-none base (omega arith) (omega arith) (partSum place (getD ws k 0) fs) (ap (λ (w : ℕ). partSum place w fs) e)

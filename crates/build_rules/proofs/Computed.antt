@@ -1,12 +1,12 @@
 -- The worked examples hold of the definitions, by computation. Assumes nothing.
 use mathlib.Core.Path.{refl}
 use Rattle.laws.specs.Search.{first, largest, root}
-use Rattle.laws.specs.Each.{each, some}
+use Rattle.laws.specs.Each.{each}
 use Rattle.laws.specs.Refusal.{refusal}
 use Rattle.counts_rules.specs.Class.{classOf, classNumber}
 use Rattle.counts_rules.specs.Total.{highestBit, shift, bits, totalCode}
 use Rattle.words_rules.specs.Decoded.{encode}
-use Rattle.list_rules.specs.Frequencies.{entriesFault, zeroFault, sumFault}
+use Rattle.list_rules.specs.Frequencies.{entriesFault, sumFault}
 use Rattle.fit.specs.Fit.{rangesFit, bucketletFits}
 use Rattle.build_rules.specs.Width.{fitsAt, width}
 use Rattle.build_rules.specs.Bucket.{widthsFrom, bucketWidths, classesFrom, bucketFrom}
@@ -15,7 +15,7 @@ use Rattle.build_rules.specs.Building.{buildFault}
 use Rattle.build_rules.specs.Worked.{Worked}
 
 pub worked : Worked
-unfolding first largest root each some refusal classOf classNumber highestBit shift bits totalCode encode entriesFault zeroFault sumFault rangesFit bucketletFits fitsAt width widthsFrom bucketWidths classesFrom bucketFrom bucketsFrom bucketWordsOf words buildFault
+unfolding first largest root each refusal classOf classNumber highestBit shift bits totalCode encode entriesFault sumFault rangesFit bucketletFits fitsAt width widthsFrom bucketWidths classesFrom bucketFrom bucketsFrom bucketWordsOf words buildFault
 worked =
     record {
       tens-words = refl;
@@ -23,6 +23,10 @@ worked =
       pair-words = refl;
       theta-99 = refl;
       theta-100 = refl;
+      zeros-words = refl;
+      zeros-widths = refl;
+      zeros-classes = refl;
+      zeros-apart = refl;
       not-average = refl;
       unrounded = refl;
       both-small = refl;

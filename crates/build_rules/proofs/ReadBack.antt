@@ -13,21 +13,20 @@ use lib.ListN.{length, getD, take, drop}
 use lib.Seq.{getD-at}
 use Rattle.laws.specs.Each.{some}
 use Rattle.laws.specs.Sums.{sum}
-use Rattle.laws.proofs.Tests.{neither, not-fails}
+use Rattle.laws.proofs.Tests.{neither}
 use Rattle.laws.proofs.EachLaws.{some-none}
-use Rattle.counts_rules.specs.Total.{validCode}
 use Rattle.words_rules.specs.declared.Bucket.{Bucket}
 use Rattle.words_rules.specs.Limits.{maxWidth}
 use Rattle.words_rules.specs.Words.{headWords, bucketWords, place, entries, theta, qn, qd, buckets, headOf, encodeHead, packedAt, startIn, flagIn, listedIn, start, end, span}
 use Rattle.words_rules.specs.Decoded.{withFree, decode, encode, bucketAt}
-use Rattle.words_rules.specs.Reading.{headGood, lengthFault, wordsBroken, wordFault, widthFault, classBroken, codesBroken, codeFault, Readable}
+use Rattle.words_rules.specs.Reading.{headGood, lengthFault, wordsBroken, wordFault, widthFault, classBroken, totalBroken, codesBroken, codeFault, Readable}
 use Rattle.words_rules.specs.Claims.{InRange}
 use Rattle.words_rules.proofs.DecodedLaws.{sum-with-free, decode-encode, encoded}
 use Rattle.laws.proofs.BetweenLaws.{is-within}
 use Rattle.list_rules.proofs.LimitLaws.{is-good-q}
 use Rattle.words_rules.proofs.HeadLaws.{by-buckets, no-head-fault}
 use Rattle.words_rules.proofs.StartLaws.{Starts, end-next, end-last, no-start-fault}
-use Rattle.words_rules.proofs.CodeLaws.{Room, no-width-fault, no-class-fault}
+use Rattle.words_rules.proofs.CodeLaws.{Room, no-width-fault, no-class-fault, no-total-fault}
 use Rattle.words_rules.proofs.EntryLaws.{part-packed}
 use Rattle.words_rules.proofs.ReadingLaws.{readable}
 use Rattle.list_rules.specs.Limits.{maxEntries, maxTheta}
@@ -38,7 +37,7 @@ use Rattle.build_rules.specs.Words.{startFrom, stretch, bucketWordsOf, h
 use Rattle.build_rules.proofs.BucketLaws.{sum-some}
 use Rattle.build_rules.proofs.WordsLaws.{words-length}
 use Rattle.build_rules.proofs.StretchLaws.{Laid, laid}
-use Rattle.build_rules.proofs.RangeLaws.{width-narrow, class-good, total-valid, in-range}
+use Rattle.build_rules.proofs.RangeLaws.{width-narrow, class-good, total-good, in-range}
 
 -- where the next bucket starts
 start-next : (q : Quality) (fs : List ℕ) (end a k : ℕ)
@@ -129,7 +128,7 @@ module _ (q : Quality) (fs : List ℕ) (sound : Sound fs q) where
   start-step b = start-next q fs d 0 b
 
   range : (b : ℕ) → b < count → InRange (bucketOf b) (startOf b + sum (bucketWidths q fs d (startOf b)))
-  range b h = in-range q fs d (startOf b) sound (omega arith) (omega (arith, start-below b h)) (start-below b h)
+  range b h = in-range q fs d (startOf b) sound (omega arith) (omega (arith, start-below b h))
 
   decoded-words : (b : ℕ) → b < count → decode (encode (bucketOf b)) (startOf b + sum (bucketWidths q fs d (startOf b))) ≡ bucketOf b
   decoded-words b h = decode-encode (bucketOf b) (startOf b + sum (bucketWidths q fs d (startOf b))) (range b h)
@@ -180,9 +179,9 @@ module _ (q : Quality) (fs : List ℕ) (sound : Sound fs q) where
       let a = startOf b in
       let below = start-below b h in
       ap codesBroken (bucket-is b h)
-      ∙ neither (some 8 (λ k. classBroken (getD (bucketWidths q fs d a) k 0) (getD (classesFrom fs a (bucketWidths q fs d a)) k 0))) (not (validCode (bucketOf b .total)))
+      ∙ neither (some 8 (λ k. classBroken (getD (bucketWidths q fs d a) k 0) (getD (classesFrom fs a (bucketWidths q fs d a)) k 0))) (totalBroken (bucketOf b))
       (some-none 8 _ (λ k g. no-class-fault _ _ (class-good q fs d a sound (omega arith) (omega arith) k g)))
-      (not-fails _ (total-valid q fs d a sound (omega arith) (omega arith) below))
+      (no-total-fault (bucketOf b) (total-good q fs d a sound (omega arith) (omega arith)))
 
   zero-start : startOf 0 ≡ 0
   unfolding startFrom

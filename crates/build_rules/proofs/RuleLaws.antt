@@ -17,7 +17,7 @@ use Rattle.build_rules.specs.Bucket.{firstFree, bucketWidths, bucketFrom
 use Rattle.build_rules.specs.Words.{stretch, words}
 use Rattle.build_rules.specs.Claims.{Largest, AsWide, ByRule}
 use Rattle.build_rules.proofs.WidthLaws.{width-largest}
-use Rattle.build_rules.proofs.BucketLaws.{placeOf, widths-length, width-at, class-of-none, class-of-count}
+use Rattle.build_rules.proofs.BucketLaws.{placeOf, widths-length, width-at, class-at, class-of-none}
 use Rattle.build_rules.proofs.ReadBack.{startOf, start-is, span-is, bucket-is}
 
 -- the largest within a limit is that within an equal one
@@ -32,7 +32,7 @@ as-wide q fs a k h =
     let long : k < length ws = omega (arith, widths-length q fs (length fs) a) in
     record {
       widest = rw (width-at q fs (length fs) a k h) (same-limit (width-largest q fs (placeOf q fs (length fs) a k) _) (omega arith));
-      class-of-count = class-of-count fs a ws k long;
+      class-of-count = class-at fs a ws k long;
       class-of-none = class-of-none fs a ws k long;
     }
 

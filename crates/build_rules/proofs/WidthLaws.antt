@@ -15,11 +15,11 @@ use Rattle.laws.proofs.Tests.{both, true-not-false}
 use Rattle.laws.proofs.EachLaws.{each-all}
 use Rattle.laws.proofs.SearchLaws as Search
 use Rattle.laws.proofs.SearchLaws.{largest-is}
-use Rattle.laws.proofs.SumsLaws.{part-le, part-cons}
+use Rattle.laws.proofs.SumsLaws.{part-le}
 use Rattle.counts_rules.specs.Limit.{limit}
 use Rattle.counts_rules.specs.Form.{base}
 use Rattle.counts_rules.specs.Class.{classOf, classValue}
-use Rattle.counts_rules.proofs.BaseLaws.{class-used, close, count-close}
+use Rattle.counts_rules.proofs.BaseLaws.{class-used, number-small, count-close}
 use Rattle.list_rules.specs.declared.Quality.{Quality}
 use Rattle.fit.specs.Fit.{near, fits, rangesFit, bucketletFits}
 use Rattle.fit.proofs.FitLaws.{Near, says-near, near-fits, small-fits}
@@ -27,21 +27,17 @@ use Rattle.list_rules.specs.Private.Sound.{Sound}
 use Rattle.build_rules.specs.Width.{fitsAt, width}
 use Rattle.build_rules.specs.Claims.{Largest}
 
-pub value-small : (v : ℕ) → 1 ≤ v → v ≤ limit → classValue v < 2 ^ 31
-value-small v h l = close (classOf base v) (class-used v h l) .small
+pub value-small : (v : ℕ) → v ≤ limit → classValue v < 2 ^ 31
+value-small v l = number-small (classOf base v) (class-used v l)
 
 module _ (q : Quality) (fs : List ℕ) (sound : Sound fs q) where
   pub count-small : (i n : ℕ) → partSum i n fs ≤ limit
   count-small i n = le-trans (part-le i n fs) (sound .total)
 
-  pub count-some : (a w : ℕ) → 1 ≤ w → a + w ≤ length fs → 1 ≤ partSum a w fs
-  count-some a zero h l = absurd (omega arith)
-  count-some a (suc w) h l = omega (arith, part-cons a w fs, sound .positive a (omega arith))
-
   -- a count and its number are within q, since q is at least 5/4
-  pub value-near : (v w : ℕ) → 1 ≤ v → v ≤ limit → Near q v (w * classValue v) w
-  value-near v w h l =
-      let c = count-close v h l in
+  pub value-near : (v w : ℕ) → v ≤ limit → Near q v (w * classValue v) w
+  value-near v w l =
+      let c = count-close v l in
       let s = classValue v in
       let over : 4 * (q .qd * v) ≤ 4 * (q .qn * s) = omega (arith, mul-le-mul-left (q .qd) (c .count), mul-le-mul-right s (sound .factor)) in
       let under : 4 * (q .qd * s) ≤ 4 * (q .qn * v) = omega (arith, mul-le-mul-left (q .qd) (c .number), mul-le-mul-right v (sound .factor)) in
@@ -54,7 +50,7 @@ module _ (q : Quality) (fs : List ℕ) (sound : Sound fs q) where
   unfolding fitsAt bucketletFits rangesFit
   one-fits a h =
       let s = classValue (partSum a 1 fs) in
-      let n = value-near (partSum a 1 fs) 1 (count-some a 1 (omega arith) (omega arith)) (count-small a 1) in
+      let n = value-near (partSum a 1 fs) 1 (count-small a 1) in
       both (near q (partSum a 1 fs) (1 * s) 1) _ (says-near q (partSum a 1 fs) (1 * s) 1 n)
       (each-all 2 (λ i. each (suc (1 - i)) (λ n. fits q (partSum (a + i) n fs) (n * s) 1))
       (λ i l. each-all (suc (1 - i)) (λ n. fits q (partSum (a + i) n fs) (n * s) 1) (λ k g. range n i k (omega arith))))

@@ -4,7 +4,7 @@
 use mathlib.Core.Bool.{Bool, cond, not}
 use mathlib.Core.List.{List, [], _∷_}
 use Prim.Native.Nat.{ℕ, _+_, _-_, min}
-use lib.Dec.{ltb, eqb}
+use lib.Dec.{ltb}
 use Rattle.laws.specs.Sums.{sum, partSum}
 use Rattle.counts_rules.specs.Form.{base}
 use Rattle.counts_rules.specs.Class.{classOf}
@@ -39,9 +39,9 @@ limitsOf first = maxWidth ∷ restLimits first
 unfoldable pub bucketWidths : Quality → List ℕ → ℕ → ℕ → List ℕ
 bucketWidths q fs end a = let first = widthWithin q fs end a maxWidth in first ∷ widthsFrom q fs end (a + first) (restLimits first)
 
--- the class of a bucketlet, 0 if it is empty
+-- the class of a bucketlet is that of its own true count, and so 0 if it is empty
 abbrev pub bucketletClass : List ℕ → ℕ → ℕ → ℕ
-bucketletClass fs a w = cond (eqb w 0) 0 (classOf base (partSum a w fs))
+bucketletClass fs a w = classOf base (partSum a w fs)
 
 unfoldable pub classesFrom : List ℕ → ℕ → List ℕ → List ℕ
 classesFrom fs a [] = []

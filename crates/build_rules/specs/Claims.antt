@@ -43,7 +43,7 @@ pub record AsWide (q : Quality) (fs : List ℕ) (r : Bucket) (k : ℕ) : Type 0 
   -- "the largest w such that it fits with each width 1 to w"; "widths stop at the end of the list", and at their limit
   pub widest : Largest q fs (bucketletStart r k) (min (limitAt r k) (length fs - bucketletStart r k)) (widthAt r k)
   -- "its class being that of its own true count"; where it is empty, "width 0, class 0"
-  pub class-of-count : 1 ≤ widthAt r k → classAt r k ≡ classOf base (partSum (bucketletStart r k) (widthAt r k) fs)
+  pub class-of-count : classAt r k ≡ classOf base (partSum (bucketletStart r k) (widthAt r k) fs)
   pub class-of-none : widthAt r k ≡ 0 → classAt r k ≡ 0
 
 -- bucket b of the words is laid out by the rules of "Building"
@@ -54,7 +54,7 @@ pub record ByRule (q : Quality) (fs ws : List ℕ) (b : ℕ) : Type 0 where
   -- "a bucket's total code is that of its own true count"
   pub total-of-count : bucketAt ws b .total ≡ totalCode (partSum (start ws b) (span ws b) fs)
 
--- a list, theta and q that no sentence 1 to 5 refuses
+-- a list, theta and q that no sentence 1 or 3 to 5 refuses
 pub record Built (fs : List ℕ) (theta qn qd : ℕ) : Type 0 where
   -- a bucketlet of width 1 fits
   pub one-fits : (a : ℕ) → a < length fs → fitsAt (quality theta qn qd) fs a 1 ≡ true

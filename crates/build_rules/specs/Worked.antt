@@ -7,9 +7,9 @@ use Prim.Native.Nat.{ℕ}
 use lib.ListN.{length}
 use Rattle.counts_rules.specs.Form.{base}
 use Rattle.counts_rules.specs.Class.{classNumber}
-use Rattle.words_rules.specs.Worked.{tens, pair}
+use Rattle.words_rules.specs.Worked.{tens, pair, zeros}
 use Rattle.list_rules.specs.declared.Quality.{Quality}
-use Rattle.build_rules.specs.Bucket.{firstFree, limitsOf, bucketWidths}
+use Rattle.build_rules.specs.Bucket.{firstFree, limitsOf, bucketWidths, classesFrom}
 use Rattle.build_rules.specs.Words.{words}
 use Rattle.build_rules.specs.Building.{buildFault}
 use Rattle.list_rules.specs.Quality.{quality}
@@ -18,6 +18,10 @@ use Rattle.list_rules.specs.Quality.{quality}
 abbrev pub firstWidths : Quality → List ℕ → List ℕ
 firstWidths q fs = bucketWidths q fs (length fs) 0
 
+-- and their classes
+abbrev pub firstClasses : Quality → List ℕ → List ℕ
+firstClasses q fs = classesFrom fs 0 (firstWidths q fs)
+
 pub record Worked : Type 0 where
   pub tens-words : words (quality 1 3 2) (10 ∷ 10 ∷ 10 ∷ 10 ∷ []) ≡ tens
   pub class-11 : classNumber base 11 ≡ 34
@@ -25,6 +29,11 @@ pub record Worked : Type 0 where
   -- with theta 99 still two bucketlets; with theta 100, one
   pub theta-99 : firstWidths (quality 99 3 2) (1 ∷ 100 ∷ []) ≡ 1 ∷ 1 ∷ 0 ∷ 0 ∷ 0 ∷ 0 ∷ 0 ∷ 0 ∷ []
   pub theta-100 : firstWidths (quality 100 3 2) (1 ∷ 100 ∷ []) ≡ 2 ∷ 0 ∷ 0 ∷ 0 ∷ 0 ∷ 0 ∷ 0 ∷ 0 ∷ []
+  -- words that no longer occur, alone, at either end of a bucketlet that theta excuses, and beside one that it does not
+  pub zeros-words : words (quality 1 3 2) (0 ∷ 0 ∷ 0 ∷ []) ≡ zeros
+  pub zeros-widths : firstWidths (quality 5 3 2) (0 ∷ 0 ∷ 5 ∷ 0 ∷ 100 ∷ []) ≡ 4 ∷ 1 ∷ 0 ∷ 0 ∷ 0 ∷ 0 ∷ 0 ∷ 0 ∷ []
+  pub zeros-classes : firstClasses (quality 5 3 2) (0 ∷ 0 ∷ 5 ∷ 0 ∷ 100 ∷ []) ≡ 5 ∷ 14 ∷ 0 ∷ 0 ∷ 0 ∷ 0 ∷ 0 ∷ 0 ∷ []
+  pub zeros-apart : firstWidths (quality 1 3 2) (0 ∷ 0 ∷ 10 ∷ 0 ∷ []) ≡ 2 ∷ 1 ∷ 1 ∷ 0 ∷ 0 ∷ 0 ∷ 0 ∷ 0 ∷ []
   -- the class's number is fitted and not the exact average (2 wide)
   pub not-average : firstWidths (quality 1 5 4) (2 ∷ 3 ∷ []) ≡ 1 ∷ 1 ∷ 0 ∷ 0 ∷ 0 ∷ 0 ∷ 0 ∷ 0 ∷ []
   -- theta is held against the estimate unrounded (floored, the first would be 3 wide)

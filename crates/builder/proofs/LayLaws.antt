@@ -1,11 +1,10 @@
 -- One bucketlet more is what the definition of the bucket has at that place, and eight of them are the bucket.
 -- Assumes nothing.
 use mathlib.Core.Path.{_≡_, refl, sym, ap, _∙_}
-use mathlib.Core.Bool.{Bool, cond, not}
+use mathlib.Core.Bool.{Bool, not}
 use mathlib.Core.List.{List}
 use Prim.Native.Nat.{ℕ, zero, suc, _+_, _≤_, _<_}
 use native.Mathlib.Omega.{arith}
-use lib.Dec.{eqb}
 use lib.ListN.{length, getD, set}
 use Rattle.laws.specs.Sums.{sum, prefixSum, partSum}
 use Rattle.laws.proofs.Filled.{Filled, filled-none, filled-more, filled-all}
@@ -58,10 +57,10 @@ module _ (q : Quality) (fs : List ℕ) (end a : ℕ) where
         let m : most ≡ getD (limitsOf (widthOf 0)) k 0 = e ∙ limit-same k (getD widths 0 0) (widthOf 0) (λ p. l .widths-in .front 0 p) in
         d ∙ ap (λ (x : ℕ). widthWithin q fs end x most) (l .at-place) ∙ ap (widthWithin q fs end (placeOf q fs end a k)) m ∙ sym (width-at q fs end a k h)
 
-    class-step : (w count class : ℕ) → w ≡ widthOf k → count ≡ partSum at w fs → class ≡ cond (eqb w 0) 0 (classOf base count) → class ≡ classOfPlace k
+    class-step : (w count class : ℕ) → w ≡ widthOf k → count ≡ partSum at w fs → class ≡ classOf base count → class ≡ classOfPlace k
     class-step w count class e d f =
         f
-        ∙ ap (λ (n : ℕ). cond (eqb w 0) 0 (classOf base n)) d
+        ∙ ap (classOf base) d
         ∙ ap (λ (x : ℕ). bucketletClass fs x w) (l .at-place)
         ∙ ap (bucketletClass fs (placeOf q fs end a k)) e
         ∙ sym (class-at fs a ws k (omega (arith, widths-length q fs end a)))
@@ -76,7 +75,7 @@ module _ (q : Quality) (fs : List ℕ) (end a : ℕ) where
         let r : partSum a (prefixSum (suc k) ws) fs ≡ partSum a (p + w) fs = ap (λ (x : ℕ). partSum a x fs) n in
         omega arith
 
-    pub laid-more : (w count class : ℕ) → w ≡ widthOf k → count ≡ partSum at w fs → class ≡ cond (eqb w 0) 0 (classOf base count)
+    pub laid-more : (w count class : ℕ) → w ≡ widthOf k → count ≡ partSum at w fs → class ≡ classOf base count
         → Laid (set widths k w) (set classes k class) (total + count) (at + w) (suc k)
     laid-more w count class e d f =
         record {

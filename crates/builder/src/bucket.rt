@@ -5,15 +5,15 @@ use counts::Coded;
 use list_rules::Quality;
 use words_rules::Bucket;
 ghost use mathlib.Core.Path.{_≡_};
-ghost use mathlib.Core.Bool.{cond, not};
+ghost use mathlib.Core.Bool.{not};
 ghost use Prim.Native.Nat.{_+_, _≤_, _<_};
-ghost use lib.Dec.{eqb};
 ghost use lib.ListN.{length, getD};
 ghost use Rattle.laws.specs.Sums.{sum, partSum};
 ghost use Rattle.counts_rules.specs.Limit.{limit};
 ghost use Rattle.counts_rules.specs.Form.{base};
 ghost use Rattle.counts_rules.specs.Class.{classOf};
 ghost use Rattle.counts_rules.specs.Total.{totalCode};
+ghost use Rattle.counts.specs.Reply.{codedReply};
 ghost use Rattle.words_rules.specs.Limits.{maxWidth};
 ghost use Rattle.build_rules.specs.Bucket.{firstFree, limitsOf, widthWithin};
 ghost use Rattle.builder.specs.Private.Laying.{Layable, placed};
@@ -71,28 +71,29 @@ fn count_of(freqs: &[u32], a: usize, w: usize) -> u32
     count
 }
 
-// The class of a bucketlet, 0 if it is empty.
-fn class_for(w: usize, count: u32) -> u32
-    requires { ⌜ (0 < w → (1 ≤ count) × (count ≤ limit)) ⌝ }
-    ensures { λ r. ⌜ r ≡ cond (eqb w 0) 0 (classOf base count) ⌝ }
+// The code that an answer of the coding holds, 0 if it is refused.
+fn code_in(answer: Coded) -> u32
+    ensures { λ r. ⌜ r ≡ codedReply answer .value ⌝ }
 {
-    if w == 0 {
-        return 0;
-    }
-    let Coded::Code(class) = counts::class_of(count) else {
-        return 0;
-    };
-    class
-}
-
-fn code_for(total: u32) -> u32
-    requires { ⌜ (1 ≤ total) × (total ≤ limit) ⌝ }
-    ensures { λ r. ⌜ r ≡ totalCode total ⌝ }
-{
-    let Coded::Code(code) = counts::code_of_total(total) else {
+    let Coded::Code(code) = answer else {
         return 0;
     };
     code
+}
+
+// The class of a bucketlet by its count, which is 0 if it is empty.
+fn class_for(count: u32) -> u32
+    requires { ⌜ count ≤ limit ⌝ }
+    ensures { λ r. ⌜ r ≡ classOf base count ⌝ }
+{
+    code_in(counts::class_of(count))
+}
+
+fn code_for(total: u32) -> u32
+    requires { ⌜ total ≤ limit ⌝ }
+    ensures { λ r. ⌜ r ≡ totalCode total ⌝ }
+{
+    code_in(counts::code_of_total(total))
 }
 
 // The bucket at entry a, on a stretch of the list that ends after it.
@@ -109,7 +110,7 @@ pub(crate) fn bucket_from(freqs: &[u32], q: Quality, end: usize, a: usize) -> Pl
         let w = width_within(freqs, q, end, at, most);
         let count = count_of(freqs, at, w);
         widths[k] = w as u32;
-        classes[k] = class_for(w, count);
+        classes[k] = class_for(count);
         total += count;
         at += w;
     }

@@ -55,7 +55,7 @@ fn splits(heavy: u64, theta: u64, count: u64) -> bool
 
 // The number that stands for a count.
 fn class_value(count: u64) -> u64
-    requires { ⌜ (1 ≤ count) × (count ≤ limit) ⌝ }
+    requires { ⌜ count ≤ limit ⌝ }
     ensures { λ r. ⌜ r ≡ classValue count ⌝ }
 {
     let Coded::Code(class) = counts::class_of(count as u32) else {

@@ -1,8 +1,11 @@
 // Lists that the builder is given, and what it makes of them.
 
+use super::check_cases::accepted;
+use super::check_cases::check;
 use super::lists::ONE_BUCKET;
 use super::lists::TENS;
 use super::lists::TENS_WORDS;
+use super::lists::ZEROS_WORDS;
 use super::print::report;
 use super::reply::Reply;
 use super::reply::answer;
@@ -15,6 +18,9 @@ const OLD: u32 = 0xABABABAB;
 
 // The words lent: more than two buckets need.
 const LENT: usize = 16;
+
+// The words of 65,536 zeros: nine buckets.
+const ONLY_ZEROS: usize = 49;
 
 fn build(freqs: &[u32], theta: u32, qn: u32, qd: u32, out: &mut [u32]) -> Reply {
     let built = builder::build(freqs, theta, qn, qd, out);
@@ -99,6 +105,34 @@ fn examples() {
     );
 }
 
+// Words that no longer occur.
+fn zeros() {
+    list(b"three zeros", &[0; 3], 1, 3, 2, ZEROS_WORDS);
+    widths(
+        b"0, 0, 5, 0, 100",
+        &[0, 0, 5, 0, 100],
+        5,
+        3,
+        2,
+        0,
+        [4, 1, 0, 0, 0, 0, 0, 0],
+    );
+    let mut lent = [OLD; ONE_BUCKET];
+    let got = build(&[0, 0, 5, 0, 100], 5, 3, 2, &mut lent);
+    report(b"  built once more", 0, got.refusal);
+    let bucket = words::bucket_at(&lent, 0);
+    report(b"  the class of bucketlet 0", 5, bucket.classes[0]);
+    report(b"  the class of bucketlet 1", 14, bucket.classes[1]);
+}
+
+fn only_zeros() {
+    let all = [0u32; 65536];
+    let mut words = [OLD; ONLY_ZEROS];
+    let got = build(&all, 1, 5, 4, &mut words);
+    report_reply(b"65,536 zeros", b"  words", answer(49), got);
+    check(b"  checked", &all, &words, accepted());
+}
+
 fn stored_q() {
     list(
         b"q 6/4 is stored as given",
@@ -148,7 +182,7 @@ fn limits_of_the_list() {
         0,
         3,
         2,
-        refusal(2),
+        refusal(4),
     );
     case(
         b"a frequency of 0 and a large sum",
@@ -156,7 +190,7 @@ fn limits_of_the_list() {
         1,
         3,
         2,
-        refusal(2),
+        refusal(3),
     );
     case(
         b"a sum of 1,073,741,823",
@@ -300,6 +334,8 @@ fn flags() {
 
 pub(crate) fn run() {
     examples();
+    zeros();
+    only_zeros();
     stored_q();
     limits_of_theta_and_q();
     limits_of_the_list();

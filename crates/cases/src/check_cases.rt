@@ -2,7 +2,10 @@
 
 use super::lists::TENS;
 use super::lists::TENS_WORDS;
+use super::lists::ZEROS_WORDS;
 use super::lists::tens_with;
+use super::lists::zeros_under;
+use super::lists::zeros_with;
 use super::print::report;
 use check_rules::Sort;
 use check_rules::Verdict;
@@ -80,6 +83,35 @@ fn checks() {
     );
 }
 
+// Words that no longer occur: class 0 stands for them alone.
+fn zeros() {
+    check(b"three zeros", &[0; 3], &ZEROS_WORDS, accepted());
+    check(
+        b"and one of them found again",
+        &[0, 1, 0],
+        &ZEROS_WORDS,
+        fails(Sort::Bucketlet, 0, 3),
+    );
+    check(
+        b"three zeros with the total 1",
+        &[0; 3],
+        &zeros_with(6, 0x80000020),
+        fails(Sort::Bucket, 0, 3),
+    );
+    check(
+        b"four tens as class 0",
+        &TENS,
+        &tens_with(5, 0x80000000),
+        fails(Sort::Part, 0, 1),
+    );
+    check(
+        b"0, 5, 7 as class 0, with theta 10",
+        &[0, 5, 7],
+        &zeros_under(10, 0x80000180),
+        fails(Sort::Bucketlet, 0, 3),
+    );
+}
+
 // The list is looked at first, then the words, and last whether their numbers of entries agree.
 fn refusals() {
     check(b"no entry", &[], &TENS_WORDS, refused(1));
@@ -91,14 +123,15 @@ fn refusals() {
         refused(12),
     );
     check(
-        b"an entry of 0, and q 124/100",
-        &[10, 0, 10, 10],
+        b"a large sum, and q 124/100",
+        &[1073741823, 1],
         &tens_with(2, 124 * 1024 + 100),
-        refused(2),
+        refused(3),
     );
 }
 
 pub(crate) fn run() {
     checks();
+    zeros();
     refusals();
 }

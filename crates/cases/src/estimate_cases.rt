@@ -3,6 +3,7 @@
 use super::check_cases::accepted;
 use super::check_cases::check;
 use super::lists::TENS_WORDS;
+use super::lists::ZEROS_WORDS;
 use super::lists::tens_with;
 use super::reply::Reply;
 use super::reply::answer;
@@ -28,6 +29,13 @@ fn estimates() {
     ask(b"0 to 4", &TENS_WORDS, 0, 4, answer(40));
     ask(b"2 to 2", &TENS_WORDS, 2, 2, answer(0));
     ask(b"4 to 4", &TENS_WORDS, 4, 4, answer(0));
+}
+
+// Of words that no longer occur the estimate is 1.
+fn zeros() {
+    ask(b"0 to 3 of three zeros", &ZEROS_WORDS, 0, 3, answer(1));
+    ask(b"1 to 2", &ZEROS_WORDS, 1, 2, answer(1));
+    ask(b"1 to 1", &ZEROS_WORDS, 1, 1, answer(0));
 }
 
 // The words are looked at before the range.
@@ -130,6 +138,7 @@ fn worse() {
 
 pub(crate) fn run() {
     estimates();
+    zeros();
     refusals();
     lower();
     both_cuts();

@@ -20,6 +20,19 @@ pub(crate) const TENS_WORDS: [u32; ONE_BUCKET] = [
     0xC0000000,
 ];
 
+// Three zeros, with the same theta and q.
+pub(crate) const ZEROS_WORDS: [u32; ONE_BUCKET] = [
+    3,
+    1,
+    0xC02,
+    1,
+    0x40000203,
+    0x80000000,
+    0x80000000,
+    0xC0000000,
+    0xC0000000,
+];
+
 // The entries 0 to 3 and 4 to 9.
 pub(crate) const TWO_WORDS: [u32; TWO_BUCKETS] = [
     10,
@@ -47,6 +60,19 @@ fn change(words: &mut [u32], at: usize, word: u32) {
 pub(crate) fn tens_with(at: usize, word: u32) -> [u32; ONE_BUCKET] {
     let mut words = TENS_WORDS;
     change(&mut words, at, word);
+    words
+}
+
+pub(crate) fn zeros_with(at: usize, word: u32) -> [u32; ONE_BUCKET] {
+    let mut words = ZEROS_WORDS;
+    change(&mut words, at, word);
+    words
+}
+
+// With another theta and another total.
+pub(crate) fn zeros_under(theta: u32, total: u32) -> [u32; ONE_BUCKET] {
+    let mut words = zeros_with(6, total);
+    change(&mut words, 1, theta);
     words
 }
 

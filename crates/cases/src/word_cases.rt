@@ -3,12 +3,14 @@
 use super::lists::ONE_BUCKET;
 use super::lists::TENS_WORDS;
 use super::lists::TWO_WORDS;
+use super::lists::ZEROS_WORDS;
 use super::lists::bad_class;
 use super::lists::bad_class_with;
 use super::lists::gaps;
 use super::lists::tens_with;
 use super::lists::two_with;
 use super::lists::wide;
+use super::lists::zeros_with;
 use super::print::report;
 use super::print::report_wide;
 
@@ -102,8 +104,12 @@ fn codes() {
     read(
         b"a free bucketlet of width 1 with class 0",
         &tens_with(4, 0x40000203),
-        12,
+        0,
     );
+    read(b"class 2", &tens_with(5, 0x82000000), 12);
+    read(b"code 0 beside class 11", &tens_with(6, 0x80000000), 12);
+    read(b"code 0 of three zeros", &ZEROS_WORDS, 0);
+    read(b"code 32 of three zeros", &zeros_with(6, 0x80000020), 0);
     read(b"the first bucketlet free", &tens_with(4, 0x40000000), 0);
     read(b"a total code with shift 24", &tens_with(6, 0x80000038), 12);
 }

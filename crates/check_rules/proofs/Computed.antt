@@ -6,15 +6,15 @@ use Rattle.laws.specs.Search.{first, largest, root}
 use Rattle.counts_rules.specs.Class.{classNumber}
 use Rattle.counts_rules.specs.Total.{middle, totalNumber, validFields}
 use Rattle.words_rules.specs.Decoded.{decode}
-use Rattle.words_rules.specs.Reading.{headGood, headFault, lengthFault, wordsBroken, wordFault, startFault, widthsBroken, widthFault, classBroken, codesBroken, codeFault}
-use Rattle.list_rules.specs.Frequencies.{entriesFault, zeroFault, sumFault}
+use Rattle.words_rules.specs.Reading.{headGood, headFault, lengthFault, wordsBroken, wordFault, startFault, widthsBroken, widthFault, classBroken, totalBroken, codesBroken, codeFault}
+use Rattle.list_rules.specs.Frequencies.{entriesFault, sumFault}
 use Rattle.fit.specs.Accepted.{mismatch}
 use Rattle.check_rules.specs.Failing.{firstFailing, rangeVerdict, startVerdict, bucketletVerdict}
 use Rattle.check_rules.specs.Checking.{totalVerdict, bucketVerdict, checkVerdict}
 use Rattle.check_rules.specs.Worked.{Worked}
 
 pub worked : Worked
-unfolding each some refusal first largest root classNumber middle totalNumber validFields decode headGood headFault lengthFault wordsBroken wordFault startFault widthsBroken widthFault classBroken codesBroken codeFault entriesFault zeroFault sumFault mismatch firstFailing rangeVerdict startVerdict bucketletVerdict totalVerdict bucketVerdict checkVerdict
+unfolding each some refusal first largest root classNumber middle totalNumber validFields decode headGood headFault lengthFault wordsBroken wordFault startFault widthsBroken widthFault classBroken totalBroken codesBroken codeFault entriesFault sumFault mismatch firstFailing rangeVerdict startVerdict bucketletVerdict totalVerdict bucketVerdict checkVerdict
 worked =
     record {
       tens-taken = refl;
@@ -34,13 +34,19 @@ worked =
       above-count = refl;
       gaps-taken = refl;
       after-gaps = refl;
+      zeros-taken = refl;
+      zeros-as-1 = refl;
+      tens-as-0 = refl;
+      whole-as-0 = refl;
+      one-as-0 = refl;
+      other-total = refl;
+      no-total = refl;
       two-taken = refl;
       bucketlet-before = refl;
       total-before = refl;
       next-bucketlet = refl;
       next-total = refl;
       no-entry = refl;
-      zero-entry = refl;
       large-sum = refl;
       no-words = refl;
       wrong-code = refl;

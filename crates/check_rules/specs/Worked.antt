@@ -5,7 +5,7 @@ use mathlib.Core.Bool.{true, false}
 use mathlib.Core.List.{List, [], _∷_, _++_}
 use Prim.Native.Nat.{ℕ, _*_}
 use lib.ListN.{set}
-use Rattle.words_rules.specs.Worked.{tens, gaps}
+use Rattle.words_rules.specs.Worked.{tens, gaps, zeros}
 use Rattle.words_rules.specs.Words.{encodeHead}
 use Rattle.words_rules.specs.Decoded.{startWord, classWord, totalWord, widthWord}
 use Rattle.check_rules.specs.Reply.{acceptedAnswer, refusedAnswer, failedAnswer}
@@ -57,6 +57,16 @@ pub record Worked : Type 0 where
   -- empty bucketlets are passed over
   pub gaps-taken : checkReply (6 ∷ 6 ∷ 4 ∷ 6 ∷ 6 ∷ 6 ∷ []) gaps ≡ acceptedAnswer
   pub after-gaps : checkReply (6 ∷ 6 ∷ 4 ∷ 6 ∷ 6 ∷ 60 ∷ []) gaps ≡ failedAnswer 1 3 6
+  -- words that no longer occur: class 0 stands for them alone, and they have no other; theta excuses a part, and not the whole
+  pub zeros-taken : checkReply (0 ∷ 0 ∷ 0 ∷ []) zeros ≡ acceptedAnswer
+  pub zeros-as-1 : checkReply (0 ∷ 0 ∷ 0 ∷ []) (oneBucket 3 1 3 2 1 1) ≡ failedAnswer 1 0 3
+  pub tens-as-0 : checkReply (10 ∷ 10 ∷ 10 ∷ 10 ∷ []) (oneBucket 4 1 3 2 0 40) ≡ failedAnswer 2 0 1
+  pub whole-as-0 : checkReply (0 ∷ 5 ∷ 7 ∷ []) (oneBucket 3 10 3 2 0 12) ≡ failedAnswer 1 0 3
+  -- an estimate of 0 is not judged as 1: one word as 0
+  pub one-as-0 : checkReply (1 ∷ []) (oneBucket 1 1 3 2 0 1) ≡ failedAnswer 1 0 1
+  -- eight classes 0 with another total than 0 are read and never accepted, and code 0 beside another class is not read
+  pub other-total : checkReply (0 ∷ 0 ∷ 0 ∷ []) (set zeros 6 0x80000020) ≡ failedAnswer 3 0 3
+  pub no-total : checkReply (0 ∷ 0 ∷ 0 ∷ []) (set zeros 5 0x81000000) ≡ refusedAnswer 12
   -- a bucketlet before its bucket's total, and that before the next bucket
   pub two-taken : checkReply twos (twoBuckets 5 4 5 4) ≡ acceptedAnswer
   pub bucketlet-before : checkReply twos (twoBuckets 9 9 5 4) ≡ failedAnswer 1 0 2
@@ -65,7 +75,6 @@ pub record Worked : Type 0 where
   pub next-total : checkReply twos (twoBuckets 5 4 5 9) ≡ failedAnswer 3 2 4
   -- the list's faults come before those of the words, and 13 after 12
   pub no-entry : checkReply [] [] ≡ record { refusal = 1; accepted = false; sort = 0; start = 0; end = 0 }
-  pub zero-entry : checkReply (10 ∷ 0 ∷ []) [] ≡ refusedAnswer 2
   pub large-sum : checkReply (1073741823 ∷ 1 ∷ []) [] ≡ refusedAnswer 3
   pub no-words : checkReply (10 ∷ []) [] ≡ refusedAnswer 7
   pub wrong-code : checkReply (10 ∷ []) (set tens 6 0x80000000) ≡ refusedAnswer 12

@@ -30,7 +30,7 @@ fn count_of(freqs: &[u32], a: usize, n: usize) -> u64
     count
 }
 
-// What fails first of a bucketlet, given by its class. An empty one has no range.
+// What fails first of a bucketlet, given by its class. One of width 0 is empty and has no range.
 fn bucketlet_verdict(freqs: &[u32], q: Quality, a: usize, w: usize, class: u32) -> Verdict
     requires { ⌜ Classed (now freqs) q a w class ⌝ }
     ensures { λ r. ⌜ r ≡ bucketletVerdict q (now (freqs .entry)) a w (classNumber base class) ⌝ }

@@ -4,6 +4,7 @@ use mathlib.Core.Path.{_≡_, refl, sym, ap, _∙_}
 use mathlib.Core.Bool.{Bool, true, cond}
 use Prim.Native.Nat.{ℕ, _≤_}
 use native.Mathlib.Omega.{arith}
+use borrow.Author.Tests.{le-leb}
 use Rattle.counts_rules.specs.Limit.{limit, countable}
 use Rattle.counts_rules.specs.Form.{base, usedClass}
 use Rattle.counts_rules.specs.Class.{classOf, classNumber}
@@ -14,7 +15,6 @@ use Rattle.counts.specs.declared.Coded.the-variants.{Code, Refused as No
 use Rattle.counts.specs.declared.Meaning.{Meaning}
 use Rattle.counts.specs.declared.Meaning.the-variants.{Number, Refused as NotRead}
 use Rattle.counts.specs.Reply.{codedReply, meaningReply, classReply, totalReply, classMeaning, totalMeaning}
-use Rattle.counts.proofs.CountLaws.{in-range}
 
 -- a reply that is answered has no refusal, and its value
 module _ (t : Bool) (v n : ℕ) (h : t ≡ true) where
@@ -27,13 +27,13 @@ module _ (t : Bool) (v n : ℕ) (h : t ≡ true) where
   pub no-refusal : (r : Reply) → r ≡ cond t (answered v) (refused n) → r .refusal ≡ 0
   no-refusal r e = ap (λ (r : Reply). r .refusal) (e ∙ reply-is)
 
-pub class-coded : (v : ℕ) (r : Reply) → 1 ≤ v → v ≤ limit → r ≡ classReply v → (r .refusal ≡ 0) × (r .value ≡ classOf base v)
+pub class-coded : (v : ℕ) (r : Reply) → v ≤ limit → r ≡ classReply v → (r .refusal ≡ 0) × (r .value ≡ classOf base v)
 unfolding classReply
-class-coded v r h l e = (no-refusal (countable v) (classOf base v) 16 (in-range v h l) r e, value-is (countable v) (classOf base v) 16 (in-range v h l) r e)
+class-coded v r l e = (no-refusal (countable v) (classOf base v) 16 (le-leb v limit l) r e, value-is (countable v) (classOf base v) 16 (le-leb v limit l) r e)
 
-pub total-coded : (t : ℕ) (r : Reply) → 1 ≤ t → t ≤ limit → r ≡ totalReply t → (r .refusal ≡ 0) × (r .value ≡ totalCode t)
+pub total-coded : (t : ℕ) (r : Reply) → t ≤ limit → r ≡ totalReply t → (r .refusal ≡ 0) × (r .value ≡ totalCode t)
 unfolding totalReply
-total-coded t r h l e = (no-refusal (countable t) (totalCode t) 16 (in-range t h l) r e, value-is (countable t) (totalCode t) 16 (in-range t h l) r e)
+total-coded t r l e = (no-refusal (countable t) (totalCode t) 16 (le-leb t limit l) r e, value-is (countable t) (totalCode t) 16 (le-leb t limit l) r e)
 
 pub class-read : (c : ℕ) (r : Reply) → usedClass c ≡ true → r ≡ classMeaning c → (r .refusal ≡ 0) × (r .value ≡ classNumber base c)
 unfolding classMeaning
@@ -64,11 +64,8 @@ holding {A} reply value refusal z same a v r =
       held = λ n e. sym (same n) ∙ ap (λ (b : A). reply b .value) (sym e) ∙ r .1;
     }
 
-pub class-code : (v : ℕ) (a : Coded) → 1 ≤ v → v ≤ limit → codedReply a ≡ classReply v → Holds-code a (classOf base v)
-class-code v a h l e = holding codedReply Code NotCoded (λ z. omega arith) (λ n. refl) a _ (class-coded v (codedReply a) h l e)
-
-pub total-code : (t : ℕ) (a : Coded) → 1 ≤ t → t ≤ limit → codedReply a ≡ totalReply t → Holds-code a (totalCode t)
-total-code t a h l e = holding codedReply Code NotCoded (λ z. omega arith) (λ n. refl) a _ (total-coded t (codedReply a) h l e)
+pub class-code : (v : ℕ) (a : Coded) → v ≤ limit → codedReply a ≡ classReply v → Holds-code a (classOf base v)
+class-code v a l e = holding codedReply Code NotCoded (λ z. omega arith) (λ n. refl) a _ (class-coded v (codedReply a) l e)
 
 pub class-number : (c : ℕ) (a : Meaning) → usedClass c ≡ true → meaningReply a ≡ classMeaning c → Holds-number a (classNumber base c)
 class-number c a h e = holding meaningReply Number NotRead (λ z. omega arith) (λ n. refl) a _ (class-read c (meaningReply a) h e)

@@ -16,8 +16,8 @@ use Rattle.laws.specs.Each.{each}
 use Rattle.laws.specs.Reply.{answered, refused, caseOf}
 use Rattle.laws.proofs.EachLaws.{each-at}
 use Rattle.laws.proofs.ReplyLaws.{answered-case, refused-case}
-use Rattle.laws.proofs.Tests.{true-not-false, both, is-false, same-test}
-use Rattle.counts_rules.specs.Limit.{limit, countable}
+use Rattle.laws.proofs.Tests.{true-not-false, is-false, same-test}
+use Rattle.counts_rules.specs.Limit.{limit}
 use Rattle.counts_rules.specs.Form.{base, usedClass}
 use Rattle.counts_rules.specs.Claims.{HighestBit}
 use Rattle.counts_rules.specs.Class.{classOf, classStart, classNumber}
@@ -40,11 +40,8 @@ module _ {A : Type 0} (value refusal : ℕ → A) where
   turned-away true v n e z = absurd (true-not-false refl e)
   turned-away false v n e z = refused-case value refusal n (refused n) z refl
 
-pub in-range : (v : ℕ) → 1 ≤ v → v ≤ limit → countable v ≡ true
-in-range v h l = both (leb 1 v) (leb v limit) (le-leb 1 v h) (le-leb v limit l)
-
-pub not-used : (c : ℕ) → (1 ≤ c → c < 63 → (c ≡ 2 → ⊥) → ⊥) → usedClass c ≡ false
-not-used c h = is-false (usedClass c) (λ t. let u = used-says c t in h (u .0) (u .1) (u .2))
+pub not-used : (c : ℕ) → (c < 63 → (c ≡ 2 → ⊥) → ⊥) → usedClass c ≡ false
+not-used c h = is-false (usedClass c) (λ t. let u = used-says c t in h (u .0) (u .1))
 
 -- ---- the place of the highest set bit
 
@@ -186,13 +183,13 @@ bits-shifted t s e = rw e (refl, bits-small t)
 
 -- ---- the number of a total code
 
--- the least bits are 1 without a shift and 64 under one
-pub least-is : (s m : ℕ) → m ≡ cond (eqb s 0) 1 64 → (1 ≤ m) × (m ≤ 64) × (1 ≤ s → m ≡ 64) × (s ≡ 0 → m ≡ 1)
+-- the least bits are 0 without a shift and 64 under one
+pub least-is : (s m : ℕ) → m ≡ cond (eqb s 0) 0 64 → (m ≤ 64) × (1 ≤ s → m ≡ 64) × (s ≡ 0 → m ≡ 0)
 least-is s m e = go (eqb s 0) refl e
   where
-    go : (t : Bool) → eqb s 0 ≡ t → m ≡ cond t 1 64 → (1 ≤ m) × (m ≤ 64) × (1 ≤ s → m ≡ 64) × (s ≡ 0 → m ≡ 1)
-    go true q f = let z = eqb-true s 0 q in (omega (arith, f), omega (arith, f), λ h. absurd (omega (arith, z, h)), λ _. f)
-    go false q f = (omega (arith, f), omega (arith, f), λ _. f, λ z. absurd (eqb-false s 0 q z))
+    go : (t : Bool) → eqb s 0 ≡ t → m ≡ cond t 0 64 → (m ≤ 64) × (1 ≤ s → m ≡ 64) × (s ≡ 0 → m ≡ 0)
+    go true q f = let z = eqb-true s 0 q in (omega (arith, f), λ h. absurd (omega (arith, z, h)), λ _. f)
+    go false q f = (omega (arith, f), λ _. f, λ z. absurd (eqb-false s 0 q z))
 
 -- a test is that of validity if it holds exactly then
 pub valid-by : (t : Bool) (b s : ℕ) → (t ≡ true → Valid b s) → (Valid b s → t ≡ true) → t ≡ validFields b s

@@ -28,14 +28,14 @@ codedOf r = caseOf Code (λ _. NotCoded) r
 abbrev pub meaningOf : Reply → Meaning
 meaningOf r = caseOf Number (λ _. NotRead) r
 
--- 16 for a count that is 0 or above the limit
+-- 16 for a count above the limit
 unfoldable pub classReply : ℕ → Reply
 classReply v = cond (countable v) (answered (classOf base v)) (refused 16)
 
 unfoldable pub totalReply : ℕ → Reply
 totalReply t = cond (countable t) (answered (totalCode t)) (refused 16)
 
--- 17 for a class that is 0, 2, 63 or above, and for a code that is not valid
+-- 17 for a class that is 2, 63 or above, and for a code that is not valid
 unfoldable pub classMeaning : ℕ → Reply
 classMeaning c = cond (usedClass c) (answered (classNumber base c)) (refused 17)
 

@@ -33,7 +33,7 @@ pub enum Meaning {
 fn is_countable(count: u32) -> bool
     ensures { λ r. ⌜ r ≡ countable count ⌝ }
 {
-    arithmetic::is_between(1, LIMIT, count)
+    count <= LIMIT
 }
 
 // The place of a count's highest set bit, counted from 0.
@@ -55,7 +55,7 @@ fn reached(class: u32, count: u32) -> u32
     }
 }
 
-// The class of a count. Two classes make less than one power of two, so it is at most three classes above that of the power; counting those that
+// The class of a count from 1 up. Two classes make less than one power of two, so it is at most three classes above that of the power; counting those that
 // are reached needs no loop.
 fn class_search(count: u32) -> u32
     requires { ⌜ (1 ≤ count) × (count ≤ limit) ⌝ }
@@ -73,6 +73,9 @@ pub fn class_of(count: u32) -> Coded
     if !is_countable(count) {
         return Coded::Refused;
     }
+    if count == 0 {
+        return Coded::Code(0);
+    }
     Coded::Code(class_search(count))
 }
 
@@ -80,9 +83,6 @@ pub fn class_of(count: u32) -> Coded
 pub fn is_used_class(class: u32) -> bool
     ensures { λ r. ⌜ r ≡ usedClass class ⌝ }
 {
-    if class == 0 {
-        return false;
-    }
     if class == 2 {
         return false;
     }
@@ -127,9 +127,9 @@ pub fn code_of_total(total: u32) -> Coded
 
 // The least bits under a shift.
 fn least_bits(shift: u32) -> u32
-    ensures { λ r. ⌜ r ≡ cond (eqb shift 0) 1 64 ⌝ }
+    ensures { λ r. ⌜ r ≡ cond (eqb shift 0) 0 64 ⌝ }
 {
-    if shift == 0 { 1 } else { 64 }
+    if shift == 0 { 0 } else { 64 }
 }
 
 // Whether the two fields are those of a valid total code.

@@ -1,7 +1,7 @@
 -- Laws of classes for any base above 1. A power that a count reaches it reaches with each smaller exponent, and by Bernoulli's inequality
 -- some power lies above it, so there is just one class.
 -- Assumes nothing.
-use mathlib.Core.Path.{_≡_, sym, ap, _∙_}
+use mathlib.Core.Path.{_≡_, refl, sym, ap, _∙_}
 use mathlib.Core.Bool.{true, not}
 use mathlib.Core.Logic.{⊎-elim}
 use Prim.Native.Nat.{ℕ, zero, suc, _+_, _-_, _*_, _^_, _≤_, _<_}
@@ -13,7 +13,7 @@ use Rattle.laws.specs.Search.{first, Root}
 use Rattle.laws.proofs.Tests.{true-not-false, both, both-left, both-right, not-holds}
 use Rattle.laws.proofs.SearchLaws.{first-is, root-is, root-mono}
 use Rattle.counts_rules.specs.Form.{Base}
-use Rattle.counts_rules.specs.Class.{Class, reaches, inClass, classOf, classStart, classNumber}
+use Rattle.counts_rules.specs.Class.{Class, reaches, inClass, classHolding, classOf, classStart, classNumber}
 
 -- v is at least base^k
 abbrev pub Reached : Base → ℕ → ℕ → Type 0
@@ -71,21 +71,20 @@ module _ (b : Base) (above : b .den < b .num) (positive : 0 < b .den) where
       let h : b .den ^ k * (1 + v) ≤ b .num ^ k = le-of-mul-le-mul-right {k = b .den} (omega (arith, bernoulli k)) positive in
       omega (arith, den-pos k, h)
 
-  pub class-is : (v : ℕ) → 1 ≤ v → Class b v (classOf b v)
-  unfolding classOf
-  class-is v h =
+  holding-is : (v : ℕ) → 1 ≤ v → Class b v (classHolding b v)
+  holding-is v h =
       let k = v * b .den in
       let f = first-is (λ c. not (reaches b c v)) k 0 in
       let c = first (λ c. not (reaches b c v)) k 0 in
       let g = first-is (λ c. inClass b c v) k 1 in
       let some : 1 ≤ c = ⊎-elim (λ (e : 0 ≡ c). absurd (none c (sym e) (past c (f .within) (f .passes)))) (λ (l : 0 < c). l) (eq-or-lt-of-le (omega arith)) in
       let inside : inClass b c v ≡ true = both (reaches b (c - 1) v) (not (reaches b c v)) (not-false _ (f .before (c - 1) (omega arith) (omega arith))) (past c (f .within) (f .passes)) in
-      let up-to : c < classOf b v → ⊥ = λ l. true-not-false inside (g .before c some l) in
-      let t : inClass b (classOf b v) v ≡ true = g .passes (omega (arith, f .within)) in
+      let up-to : c < classHolding b v → ⊥ = λ l. true-not-false inside (g .before c some l) in
+      let t : inClass b (classHolding b v) v ≡ true = g .passes (omega (arith, f .within)) in
       record {
         least = g .from;
-        reached = leb-true _ _ (both-left (reaches b (classOf b v - 1) v) _ t);
-        not-next = leb-false _ _ (not-true _ (both-right (reaches b (classOf b v - 1) v) _ t));
+        reached = leb-true _ _ (both-left (reaches b (classHolding b v - 1) v) _ t);
+        not-next = leb-false _ _ (not-true _ (both-right (reaches b (classHolding b v - 1) v) _ t));
       }
     where
       past : (c : ℕ) → c ≤ 0 + v * b .den → (c < 0 + v * b .den → not (reaches b c v) ≡ true) → not (reaches b c v) ≡ true
@@ -94,6 +93,20 @@ module _ (b : Base) (above : b .den < b .num) (positive : 0 < b .den) where
 
       none : (c : ℕ) → c ≡ 0 → not (reaches b c v) ≡ true → ⊥
       none c e p = let l = leb-false (b .num ^ c) (v * b .den ^ c) (not-true _ p) in let l0 : v * b .den ^ 0 < b .num ^ 0 = rw e at l in omega (arith, rw (pow-zero (b .den), pow-zero (b .num)) at l0)
+
+  pub class-is : (v : ℕ) → 1 ≤ v → Class b v (classOf b v)
+  unfolding classOf
+  class-is zero h = absurd (omega arith)
+  class-is (suc v) h = holding-is (suc v) h
+
+  pub class-none : (v : ℕ) → v ≡ 0 → classOf b v ≡ 0
+  unfolding classOf
+  class-none zero e = refl
+  class-none (suc v) e = absurd (omega arith)
+
+  pub only-none : (v : ℕ) → classOf b v ≡ 0 → v ≡ 0
+  only-none zero e = refl
+  only-none (suc v) e = absurd (omega (arith, class-is (suc v) (omega arith) .least))
 
   count-pos : (v c : ℕ) → Class b v c → 1 ≤ v
   count-pos zero c p = omega (arith, num-pos (c - 1), p .reached)
@@ -104,8 +117,9 @@ module _ (b : Base) (above : b .den < b .num) (positive : 0 < b .den) where
       let q = class-is v (count-pos v c p) in
       omega (arith, class-le v v c (classOf b v) (omega arith) p q, class-le v v (classOf b v) c (omega arith) q p)
 
-  pub class-mono : (v w : ℕ) → 1 ≤ v → v ≤ w → classOf b v ≤ classOf b w
-  class-mono v w g h = class-le v w _ _ h (class-is v g) (class-is w (omega arith))
+  pub class-mono : (v w : ℕ) → v ≤ w → classOf b v ≤ classOf b w
+  class-mono zero w h = omega (arith, class-none 0 refl)
+  class-mono (suc v) w h = class-le (suc v) w _ _ h (class-is (suc v) (omega arith)) (class-is w (omega arith))
 
   -- s is the count with which the class begins
   pub record Start (c s : ℕ) : Type 0 where

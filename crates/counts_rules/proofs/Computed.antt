@@ -9,17 +9,18 @@ pub worked : Worked
 unfolding first largest root classOf classStart classNumber highestBit shift bits totalCode middle totalNumber validFields
 worked =
     record {
+      count-0 = record { class = refl; number = refl };
       count-1 = record { class = refl; number = refl };
       count-2 = record { class = refl; number = refl };
       count-5 = record { class = refl; number = refl };
       count-10 = record { class = refl; number = refl };
       count-11 = record { class = refl; number = refl };
       count-100 = record { class = refl; number = refl };
+      total-0 = record { code = refl; number = refl };
       total-127 = record { code = refl; number = refl };
       total-128 = record { code = refl; number = refl };
       total-1000 = record { code = refl; number = refl };
       starts = refl;
-      class-0 = refl;
       used = refl;
       coded = refl;
       valid = refl;

@@ -182,7 +182,6 @@ number-is c =
 
 -- what a valid code's fields are
 pub record Valid (b s : ℕ) : Type 0 where
-  pub some : 1 ≤ b
   pub bits-top : b ≤ 127
   pub shift-top : s ≤ 23
   pub bits-low : 0 < s → 64 ≤ b
@@ -191,13 +190,11 @@ pub valid-says : (b s : ℕ) → validFields b s ≡ true → Valid b s
 unfolding validFields
 valid-says b s t = ⊎-elim whole shifted (either _ _ t)
   where
-    whole : (eqb s 0 && (leb 1 b && leb b 127)) ≡ true → Valid b s
+    whole : (eqb s 0 && leb b 127) ≡ true → Valid b s
     whole p =
         let z = eqb-true s 0 (both-left (eqb s 0) _ p) in
-        let r = both-right (eqb s 0) _ p in
         record {
-          some = leb-true _ _ (both-left (leb 1 b) _ r);
-          bits-top = leb-true _ _ (both-right (leb 1 b) _ r);
+          bits-top = leb-true _ _ (both-right (eqb s 0) _ p);
           shift-top = omega arith;
           bits-low = λ h. absurd (omega arith);
         }
@@ -208,7 +205,6 @@ valid-says b s t = ⊎-elim whole shifted (either _ _ t)
         let r = both-right (leb 1 s && leb s 23) _ p in
         let low = leb-true 64 b (both-left (leb 64 b) _ r) in
         record {
-          some = omega arith;
           bits-top = leb-true _ _ (both-right (leb 64 b) _ r);
           shift-top = leb-true _ _ (both-right (leb 1 s) _ l);
           bits-low = λ h. low;
@@ -216,9 +212,9 @@ valid-says b s t = ⊎-elim whole shifted (either _ _ t)
 
 pub says-valid : (b s : ℕ) → Valid b s → validFields b s ≡ true
 unfolding validFields
-says-valid b zero v = holds-left _ _ (both (eqb 0 0) _ refl (both (leb 1 b) _ (le-leb 1 b (v .some)) (le-leb b 127 (v .bits-top))))
+says-valid b zero v = holds-left _ _ (both (eqb 0 0) _ refl (le-leb b 127 (v .bits-top)))
 says-valid b (suc s) v =
-    holds-right (eqb (suc s) 0 && (leb 1 b && leb b 127)) _
+    holds-right (eqb (suc s) 0 && leb b 127) _
     (both (leb 1 (suc s) && leb (suc s) 23) _ (both (leb 1 (suc s)) _ (le-leb 1 (suc s) (omega arith)) (le-leb (suc s) 23 (v .shift-top)))
     (both (leb 64 b) _ (le-leb 64 b (v .bits-low (omega arith))) (le-leb b 127 (v .bits-top))))
 
@@ -227,15 +223,12 @@ shift-small t h =
     let a : 24 ≤ shift t → ⊥ = λ g. let m = pow-mono {i = 24} {j = shift t} g in omega (arith, shift-is t .above (omega arith)) in
     omega arith
 
-pub code-valid : (t : ℕ) → 1 ≤ t → t ≤ limit → validCode (totalCode t) ≡ true
+pub code-valid : (t : ℕ) → t ≤ limit → validCode (totalCode t) ≡ true
 unfolding totalCode
-code-valid t h l = rw (field-bits, field-shift) (says-valid (bits t) (shift t) fields)
+code-valid t l = rw (field-bits, field-shift) (says-valid (bits t) (shift t) fields)
   where
     small : shift t ≤ 23
     small = shift-small t l
-
-    some : 1 ≤ bits t
-    some = ⊎-elim (λ (e : 0 ≡ shift t). omega (arith, bits-whole t (sym e))) (λ (g : 0 < shift t). omega (arith, bits-large t g)) (eq-or-lt-of-le (omega arith))
 
     field-bits : (bits t * 32 + shift t) / 32 ≡ bits t
     field-bits = omega (arith, small)
@@ -244,7 +237,7 @@ code-valid t h l = rw (field-bits, field-shift) (says-valid (bits t) (shift t) f
     field-shift = omega (arith, small)
 
     fields : Valid (bits t) (shift t)
-    fields = record { some = some; bits-top = omega (arith, bits-small t); shift-top = small; bits-low = bits-large t }
+    fields = record { bits-top = omega (arith, bits-small t); shift-top = small; bits-low = bits-large t }
 
 pub number-has-code : (c : ℕ) → validCode c ≡ true → totalCode (totalNumber c) ≡ c
 unfolding totalCode
@@ -301,6 +294,16 @@ count-within t h = close (bits t) (shift t) _ _ (bits-is t) (value-stretch t h) 
 
 pub number-within : (t : ℕ) → t ≤ limit → 64 * totalNumber (totalCode t) ≤ 65 * t
 number-within t h = close (bits t) (shift t) _ _ (value-stretch t h) (bits-is t) (bits-large t) (value-whole t h)
+
+-- code 0 is that of 0, and of no other total
+pub number-none : totalNumber 0 ≡ 0
+number-none = let n = number-is 0 in omega (arith, n .to)
+
+pub code-none : totalCode 0 ≡ 0
+code-none = ap totalCode (sym number-none) ∙ number-has-code 0 (says-valid 0 0 (record { bits-top = omega arith; shift-top = omega arith; bits-low = λ h. omega arith }))
+
+pub only-none : (t : ℕ) → t ≤ limit → totalCode t ≡ 0 → t ≡ 0
+only-none t h e = omega (arith, count-within t h, ap totalNumber e ∙ number-none)
 
 -- a larger total has the larger stretch, or the same
 pub number-grows : (t u : ℕ) → t ≤ u → u ≤ limit → totalNumber (totalCode t) ≤ totalNumber (totalCode u)

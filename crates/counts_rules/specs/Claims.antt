@@ -13,11 +13,15 @@ abbrev pub totalValue : ℕ → ℕ
 totalValue t = totalNumber (totalCode t)
 
 pub record Classes : Type 0 where
-  -- a count has just one class
+  -- 0 has class 0, which stands for it, and no other count has it
+  pub class-of-0 : classOf base 0 ≡ 0
+  pub number-of-0 : classNumber base 0 ≡ 0
+  pub only-0 : (v : ℕ) → classOf base v ≡ 0 → v ≡ 0
+  -- any other count has just one class
   pub has-class : (v : ℕ) → 1 ≤ v → Class base v (classOf base v)
   pub one-class : (v c : ℕ) → Class base v c → classOf base v ≡ c
-  -- and it is 1, or 3 to 62
-  pub class-used : (v : ℕ) → 1 ≤ v → v ≤ limit → usedClass (classOf base v) ≡ true
+  -- and it is 0, 1, or 3 to 62
+  pub class-used : (v : ℕ) → v ≤ limit → usedClass (classOf base v) ≡ true
   -- a class begins at the smallest count that reaches (7/5)^(c-1)
   pub start-reaches : (c : ℕ) → 1 ≤ c → 7 ^ (c - 1) ≤ classStart base c * 5 ^ (c - 1)
   pub start-least : (c v : ℕ) → 1 ≤ c → 7 ^ (c - 1) ≤ v * 5 ^ (c - 1) → classStart base c ≤ v
@@ -29,12 +33,12 @@ pub record Classes : Type 0 where
   pub number-has-class : (c : ℕ) → usedClass c ≡ true → classOf base (classNumber base c) ≡ c
   pub number-small : (c : ℕ) → usedClass c ≡ true → classNumber base c < 2 ^ 31
   -- a count and its class's number are within 5/4 of one another, and no closer bound holds
-  pub count-within : (v : ℕ) → 1 ≤ v → v ≤ limit → 4 * v ≤ 5 * classValue v
-  pub number-within : (v : ℕ) → 1 ≤ v → v ≤ limit → 4 * classValue v ≤ 5 * v
+  pub count-within : (v : ℕ) → v ≤ limit → 4 * v ≤ 5 * classValue v
+  pub number-within : (v : ℕ) → v ≤ limit → 4 * classValue v ≤ 5 * v
   pub attained-by-5 : 4 * 5 ≡ 5 * classValue 5
   pub attained-by-10 : 4 * 10 ≡ 5 * classValue 10
   -- the number never falls as the count grows
-  pub number-grows : (v w : ℕ) → 1 ≤ v → v ≤ w → classValue v ≤ classValue w
+  pub number-grows : (v w : ℕ) → v ≤ w → classValue v ≤ classValue w
 
 -- bit h is the highest that is set in t
 pub record HighestBit (t h : ℕ) : Type 0 where
@@ -45,8 +49,12 @@ pub record Totals : Type 0 where
   -- a total has just one highest set bit
   pub highest-bit : (t : ℕ) → 1 ≤ t → HighestBit t (highestBit t)
   pub one-highest-bit : (t h : ℕ) → HighestBit t h → highestBit t ≡ h
+  -- 0 has code 0, which stands for it, and no other count has it
+  pub code-of-0 : totalCode 0 ≡ 0
+  pub number-of-0 : totalNumber 0 ≡ 0
+  pub only-0 : (t : ℕ) → t ≤ limit → totalCode t ≡ 0 → t ≡ 0
   -- the code of a count is valid
-  pub code-valid : (t : ℕ) → 1 ≤ t → t ≤ limit → validCode (totalCode t) ≡ true
+  pub code-valid : (t : ℕ) → t ≤ limit → validCode (totalCode t) ≡ true
   -- the middle is the largest whole number by its rule
   pub middle-within : (s : ℕ) → (middle s + 2 ^ s) * (middle s + 2 ^ s) ≤ 2 ^ (2 * s + 1)
   pub middle-most : (s m : ℕ) → (m + 2 ^ s) * (m + 2 ^ s) ≤ 2 ^ (2 * s + 1) → m ≤ middle s
@@ -56,8 +64,8 @@ pub record Totals : Type 0 where
   pub number-has-code : (c : ℕ) → validCode c ≡ true → totalCode (totalNumber c) ≡ c
   pub number-small : (c : ℕ) → validCode c ≡ true → totalNumber c < 2 ^ 31
   -- a total and its code's number are within 65/64 of one another, which is below 11/10
-  pub count-within : (t : ℕ) → 1 ≤ t → t ≤ limit → 64 * t ≤ 65 * totalValue t
-  pub number-within : (t : ℕ) → 1 ≤ t → t ≤ limit → 64 * totalValue t ≤ 65 * t
+  pub count-within : (t : ℕ) → t ≤ limit → 64 * t ≤ 65 * totalValue t
+  pub number-within : (t : ℕ) → t ≤ limit → 64 * totalValue t ≤ 65 * t
   pub below-11/10 : 65 * 10 ≤ 64 * 11
   -- the number never falls as the total grows
   pub number-grows : (t u : ℕ) → t ≤ u → u ≤ limit → totalValue t ≤ totalValue u

@@ -14,9 +14,14 @@ reaches b k v = leb (b .num ^ k) (v * b .den ^ k)
 abbrev pub inClass : Base → ℕ → ℕ → Bool
 inClass b c v = reaches b (c - 1) v && not (reaches b c v)
 
--- the class of a count of at least 1; no class is above v times den (claims has-class, one-class)
+-- the class that holds a count of at least 1; none is above v times den (claims has-class, one-class)
+abbrev pub classHolding : Base → ℕ → ℕ
+classHolding b v = first (λ c. inClass b c v) (v * b .den) 1
+
+-- the class of a count, which is 0 for 0 (document 02, request iv)
 unfoldable pub classOf : Base → ℕ → ℕ
-classOf b v = first (λ c. inClass b c v) (v * b .den) 1
+classOf b zero = 0
+classOf b (suc v) = classHolding b (suc v)
 
 -- the smallest count that is not below the class, with which the class begins (claims start-reaches, start-least)
 unfoldable pub classStart : Base → ℕ → ℕ

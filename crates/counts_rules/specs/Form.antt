@@ -3,7 +3,7 @@
 -- Assumes nothing.
 use mathlib.Core.Bool.{Bool, not, _&&_}
 use Prim.Native.Nat.{ℕ}
-use lib.Dec.{leb, ltb, eqb}
+use lib.Dec.{ltb, eqb}
 
 -- a base num / den, above 1
 pub record Base : Type 0 where
@@ -38,6 +38,6 @@ form =
 abbrev pub base : Base
 base = form .base
 
--- a class that counts have; 0 belongs to an empty bucketlet
+-- a class that counts have; 0 is that of 0
 abbrev pub usedClass : ℕ → Bool
-usedClass c = (leb 1 c && ltb c (form .classEnd)) && not (form .isVoid c)
+usedClass c = ltb c (form .classEnd) && not (form .isVoid c)

@@ -2,10 +2,10 @@
 -- Assumes nothing.
 use mathlib.Core.Bool.{Bool}
 use Prim.Native.Nat.{ℕ}
-use Rattle.laws.specs.Between.{between}
+use lib.Dec.{leb}
 
 abbrev pub limit : ℕ
 limit = 1073741823
 
 abbrev pub countable : ℕ → Bool
-countable v = between 1 limit v
+countable v = leb v limit

@@ -33,9 +33,9 @@ middle s = largest (λ m. leb ((m + 2 ^ s) * (m + 2 ^ s)) (2 ^ (2 * s + 1))) (2 
 unfoldable pub totalNumber : ℕ → ℕ
 totalNumber c = codeBits c * 2 ^ codeShift c + middle (codeShift c)
 
--- shift 0 with bits 1 to 127, or shift 1 to 23 with bits 64 to 127
+-- shift 0 with bits up to 127, or shift 1 to 23 with bits 64 to 127; where code 0 may stand is said of a bucket (sentence 12)
 unfoldable pub validFields : ℕ → ℕ → Bool
-validFields b s = eqb s 0 && (leb 1 b && leb b 127) || (leb 1 s && leb s 23) && (leb 64 b && leb b 127)
+validFields b s = eqb s 0 && leb b 127 || (leb 1 s && leb s 23) && (leb 64 b && leb b 127)
 
 abbrev pub validCode : ℕ → Bool
 validCode c = validFields (codeBits c) (codeShift c)

@@ -81,7 +81,7 @@ fn number_entry(class: u32) -> u32
     ensures { λ r. ⌜ r ≡ getD classNumbers class 0 ⌝ }
 {
     match class {
-        0 => 0,
+        0 => 0, // the class of 0
         1 => 1,
         2 => 0,
         3 => 2,

@@ -1,18 +1,48 @@
--- Laws of asking (specs/Asking.antt): a range within a readable list is answered with its estimate.
+-- Laws of asking (specs/Asking.antt): what the 1 for a sum of 0 is, and a range within a readable list is answered with its
+-- estimate.
 -- Assumes nothing.
 use mathlib.Core.Path.{_≡_, refl, ap, _∙_}
-use mathlib.Core.Bool.{Bool, false, cond}
+use mathlib.Core.Bool.{Bool, true, false, cond, not, _&&_}
 use mathlib.Core.List.{List, [], _∷_}
-use mathlib.Core.Logic.{_⊎_, ⊎-elim}
-use Prim.Native.Nat.{ℕ, _≤_, _<_}
-use borrow.Author.Tests.{le-ltb, lt-ltb, eq-eqb, ne-eqb}
-use lib.Dec.{ltb}
+use mathlib.Core.Logic.{_⊎_, inl, inr, ⊎-elim}
+use Prim.Native.Nat.{ℕ, _≤_, _<_, max}
+use native.Mathlib.Omega.{arith}
+use borrow.Author.Tests.{le-ltb, lt-ltb, eqb-true, eqb-false, eq-eqb, ne-eqb}
+use lib.Dec.{ltb, eqb}
 use Rattle.laws.specs.Reply.{answered, refused}
 use Rattle.laws.proofs.Tests.{neither, holds-left, holds-right}
 use Rattle.laws.proofs.RefusalLaws.{numbered, none-left, passed, append-passed, append-refused, append-first, refused as refused-at}
 use Rattle.words_rules.specs.Words.{entries}
 use Rattle.words_rules.specs.Reading.{readSentences, readFault, Readable}
-use Rattle.estimate_rules.specs.Asking.{rangeFault, askFault, estimate, estimateReply}
+use Rattle.estimate_rules.specs.Asking.{rangeFault, askFault, raised, estimate, estimateReply}
+
+-- ---- the 1 for a sum of 0
+
+module _ (x y n : ℕ) where
+  -- the rounded sum is answered, or that is 0 and 1 is
+  pub raised-or : (raised x y n ≡ n) ⊎ ((n ≡ 0) × (raised x y n ≡ 1))
+  unfolding raised
+  raised-or = go (not (eqb x y)) (eqb n 0) refl
+    where
+      go : (t u : Bool) → eqb n 0 ≡ u → (cond (t && u) 1 n ≡ n) ⊎ ((n ≡ 0) × (cond (t && u) 1 n ≡ 1))
+      go true true e = inr (eqb-true n 0 e, refl)
+      go true false e = inl refl
+      go false u e = inl refl
+
+  pub raised-empty : x ≡ y → raised x y n ≡ n
+  unfolding raised
+  raised-empty e = simp (eq-eqb x y e)
+
+  -- a range that isn't empty, as the code has it
+  pub raised-some : (x ≡ y → ⊥) → raised x y n ≡ max 1 n
+  unfolding raised
+  raised-some d = ap (λ (t : Bool). cond (not t && eqb n 0) 1 n) (ne-eqb x y d) ∙ go (eqb n 0) refl
+    where
+      go : (u : Bool) → eqb n 0 ≡ u → cond u 1 n ≡ max 1 n
+      go true e = omega (arith, eqb-true n 0 e)
+      go false e = let z = eqb-false n 0 e in omega arith
+
+-- ---- what is answered
 
 module _ (ws : List ℕ) (x y : ℕ) where
   pub list-first : (readFault ws ≡ 0 → ⊥) → askFault ws x y ≡ readFault ws

@@ -6,11 +6,7 @@ use Prim.Native.Nat.{ℕ, zero, suc, _+_, _-_, _*_, _≤_, _<_}
 use native.Mathlib.Nat.{div-mul-le-self, lt-div-mul-add, eq-or-lt-of-le, le-of-suc-le-suc, mul-le-mul-right, lt-of-mul-lt-mul-right}
 use native.Mathlib.Omega.{arith}
 use Rattle.estimate_rules.specs.declared.Fraction.{Fraction}
-use Rattle.estimate_rules.specs.Fraction.{nothing, plus, sumOf, rounded}
-
--- the fraction times its bottom
-abbrev pub numerator : Fraction → ℕ
-numerator e = e .whole * e .bottom + e .top
+use Rattle.estimate_rules.specs.Fraction.{nothing, plus, numerator, sumOf, rounded}
 
 -- rounded e is the least whole number that is not below e
 

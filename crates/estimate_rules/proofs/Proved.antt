@@ -1,6 +1,7 @@
 -- The claims of specs/Claims.antt, from the laws beside this file. Assumes nothing.
-use mathlib.Core.Path.{_≡_, ap, _∙_}
+use mathlib.Core.Path.{_≡_, refl, sym, ap, subst, _∙_}
 use mathlib.Core.List.{List}
+use mathlib.Core.Logic.{⊎-elim}
 use Prim.Native.Nat.{ℕ, _+_, _*_, _^_, _≤_, _<_}
 use native.Mathlib.Nat.{mul-le-mul-right, le-trans, pow-le-pow-right}
 use native.Mathlib.Omega.{arith}
@@ -12,13 +13,13 @@ use Rattle.words_rules.specs.Decoded.{bucketAt, bucketletStart, widthAt, number
 use Rattle.words_rules.specs.Reading.{Readable}
 use Rattle.words_rules.proofs.Proved.{histogram}
 use Rattle.estimate_rules.specs.declared.Fraction.{Fraction}
-use Rattle.estimate_rules.specs.Fraction.{nothing, rounded}
+use Rattle.estimate_rules.specs.Fraction.{nothing, numerator, rounded}
 use Rattle.estimate_rules.specs.Exact.{inside, bucketletPiece, bucketPiece, exact}
-use Rattle.estimate_rules.specs.Asking.{estimate, estimateReply}
+use Rattle.estimate_rules.specs.Asking.{raised, estimate, estimateReply}
 use Rattle.estimate_rules.specs.Claims.{Sizes, RoundedUp, Estimates}
 use Rattle.estimate_rules.proofs.FractionLaws.{rounded-reaches, rounded-most, sum-none}
 use Rattle.estimate_rules.proofs.ExactLaws.{inside-says, piece-none, bucket-parts}
-use Rattle.estimate_rules.proofs.AskingLaws.{reply-is}
+use Rattle.estimate_rules.proofs.AskingLaws.{raised-or, raised-empty, raised-some, reply-is}
 use Rattle.estimate_rules.proofs.CutLaws.{cuts, cuts-most}
 use Rattle.estimate_rules.proofs.SpanLaws.{exact-holds}
 use Rattle.estimate_rules.proofs.SizeLaws.{Sized, sized-joined, bucketlet-sized, total-sized}
@@ -41,7 +42,11 @@ module _ (ws : List ℕ) (readable : Readable ws) (x y : ℕ) where
   answer-small =
       let e = exact ws x y in
       let limits = histogram .limits ws readable in
-      omega (arith, limits .most-entries, sized .whole-small, rounded-most e (e .whole + 2 * 2 ^ 31) (sized .bottom-some) (omega (arith, top-small)))
+      let n = rounded-most e (e .whole + 2 * 2 ^ 31) (sized .bottom-some) (omega (arith, top-small)) in
+      ⊎-elim
+      (λ (k : raised x y (rounded e) ≡ rounded e). omega (arith, limits .most-entries, sized .whole-small))
+      (λ (k : (rounded e ≡ 0) × (raised x y (rounded e) ≡ 1)). omega (arith, k .1))
+      (raised-or x y (rounded e))
 
   pub sizes : Sizes ws x y
   sizes =
@@ -53,9 +58,28 @@ module _ (ws : List ℕ) (readable : Readable ws) (x y : ℕ) where
         answer-small = answer-small;
       }
 
-  sum-rounded-up : RoundedUp (exact ws x y) (estimate ws x y)
+  up : RoundedUp (exact ws x y) (rounded (exact ws x y))
+  up = rounded-up (exact ws x y) (sized .bottom-some)
+
+  sum-rounded-up : 0 < numerator (exact ws x y) → RoundedUp (exact ws x y) (estimate ws x y)
   unfolding estimate
-  sum-rounded-up = rounded-up (exact ws x y) (sized .bottom-some)
+  sum-rounded-up h =
+      let n = rounded (exact ws x y) in
+      ⊎-elim
+      (λ (k : raised x y n ≡ n). subst (RoundedUp (exact ws x y)) (sym k) up)
+      (λ (k : (n ≡ 0) × (raised x y n ≡ 1)). absurd (none-up (k .0)))
+      (raised-or x y n)
+    where
+      none-up : rounded (exact ws x y) ≡ 0 → ⊥
+      none-up z = omega (arith, up .not-below, ap (λ (n : ℕ). n * exact ws x y .bottom) z)
+
+  sum-of-0 : x < y → numerator (exact ws x y) ≡ 0 → estimate ws x y ≡ 1
+  unfolding estimate
+  sum-of-0 h z = omega (arith, raised-some x y (rounded (exact ws x y)) (λ e. omega arith), up .least 0 (omega arith))
+
+never-0 : (ws : List ℕ) (x y : ℕ) → x < y → 1 ≤ estimate ws x y
+unfolding estimate
+never-0 ws x y h = omega (arith, raised-some x y (rounded (exact ws x y)) (λ e. omega arith))
 
 module _ (ws : List ℕ) (readable : Readable ws) (x : ℕ) where
   bucket-empty : (b : ℕ) → b < buckets ws → bucketPiece ws x x b ≡ nothing
@@ -69,10 +93,10 @@ module _ (ws : List ℕ) (readable : Readable ws) (x : ℕ) where
 
   pub none : estimate ws x x ≡ 0
   unfolding exact estimate rounded
-  none = ap rounded (sum-none (buckets ws) (bucketPiece ws x x) bucket-empty)
+  none = raised-empty x x (rounded (exact ws x x)) refl ∙ ap rounded (sum-none (buckets ws) (bucketPiece ws x x) bucket-empty)
 
   empty : x ≤ entries ws → estimateReply ws x x ≡ answered 0
   empty h = reply-is ws x x readable (omega arith) h ∙ ap answered none
 
 pub estimates : Estimates
-estimates = record { rounded-up = rounded-up; sum-rounded-up = sum-rounded-up; sizes = sizes; empty = empty }
+estimates = record { rounded-up = rounded-up; sum-rounded-up = sum-rounded-up; never-0 = never-0; sum-of-0 = sum-of-0; sizes = sizes; empty = empty }

@@ -1,6 +1,6 @@
 -- How large the numbers of an estimate become: a whole part is at most 2^31 an entry, and each cut multiplies the bottom by a width.
 -- Assumes nothing.
-use mathlib.Core.Path.{_≡_, ap, subst, sym}
+use mathlib.Core.Path.{_≡_, subst, sym}
 use mathlib.Core.Bool.{true, false}
 use mathlib.Core.List.{List}
 use mathlib.Core.Logic.{⊎-elim}
@@ -9,8 +9,6 @@ use native.Mathlib.Nat.{mul-le-mul, mul-le-mul-right, mul-pos, le-of-lt, le-tran
 use native.Mathlib.Omega.{arith}
 use lib.Pow.{pow-add}
 use Rattle.laws.proofs.Tests.{tested}
-use Rattle.counts_rules.specs.Form.{base}
-use Rattle.counts_rules.specs.Class.{classNumber}
 use Rattle.counts_rules.specs.Total.{totalNumber}
 use Rattle.words_rules.specs.Limits.{maxWidth}
 use Rattle.words_rules.specs.Words.{buckets, start, end}
@@ -86,14 +84,8 @@ module _ (x y : ℕ) where
       met = overlap x y a (a + w)
 
 module _ (ws : List ℕ) (readable : Readable ws) (x y b : ℕ) (is : b < buckets ws) where
-  pub class-small : (j : ℕ) → j < 8 → numberAt (bucketAt ws b) j ≤ 2 ^ 31
-  unfolding classNumber
-  class-small j l =
-      let holds = histogram .holds ws readable b is in
-      ⊎-elim
-      (λ (z : widthAt (bucketAt ws b) j ≡ 0). omega (arith, ap (classNumber base) (holds .empty-class j l z)))
-      (λ (p : 0 < widthAt (bucketAt ws b) j). le-of-lt (classes .number-small (classAt (bucketAt ws b) j) (holds .class-used j l p)))
-      (eq-zero-or-pos (widthAt (bucketAt ws b) j))
+  class-small : (j : ℕ) → j < 8 → numberAt (bucketAt ws b) j ≤ 2 ^ 31
+  class-small j l = le-of-lt (classes .number-small (classAt (bucketAt ws b) j) (histogram .holds ws readable b is .class-used j l))
 
   pub bucketlet-sized : (j : ℕ) → j < 8 → Sized x y (bucketletStart (bucketAt ws b) j) (bucketletEnd (bucketAt ws b) j) (bucketletPiece x y (bucketAt ws b) j)
   bucketlet-sized j l =

@@ -1,6 +1,6 @@
 -- What the estimator answers (document 01, "Asking" and "When a call is turned away", 7 to 12 and 14).
 -- Assumes nothing.
-use mathlib.Core.Bool.{Bool, cond, _||_}
+use mathlib.Core.Bool.{Bool, cond, not, _&&_, _||_}
 use mathlib.Core.List.{List, [], _∷_, _++_}
 use Prim.Native.Nat.{ℕ}
 use lib.Dec.{ltb, eqb}
@@ -21,9 +21,13 @@ askSentences ws x y = readSentences ws ++ (record { number = 14; holds = rangeFa
 abbrev pub askFault : List ℕ → ℕ → ℕ → ℕ
 askFault ws x y = refusal (askSentences ws x y)
 
+-- what is answered where the sum is rounded to n: for a range that isn't empty never 0, but 1 (document 02, request iv)
+unfoldable pub raised : ℕ → ℕ → ℕ → ℕ
+raised x y n = cond (not (eqb x y) && eqb n 0) 1 n
+
 -- the one sum, rounded up once
 unfoldable pub estimate : List ℕ → ℕ → ℕ → ℕ
-estimate ws x y = rounded (exact ws x y)
+estimate ws x y = raised x y (rounded (exact ws x y))
 
 unfoldable pub estimateReply : List ℕ → ℕ → ℕ → Reply
 estimateReply ws x y =

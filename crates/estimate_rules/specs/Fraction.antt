@@ -20,6 +20,10 @@ plus a b =
       bottom = a .bottom * b .bottom;
     }
 
+-- what stands over the bottom where the whole part is brought there too; the fraction is 0 exactly if this is
+abbrev pub numerator : Fraction → ℕ
+numerator e = e .whole * e .bottom + e .top
+
 -- rounded up to a whole number (claim rounded-up)
 unfoldable pub rounded : Fraction → ℕ
 rounded e = e .whole + (e .top + (e .bottom - 1)) / e .bottom

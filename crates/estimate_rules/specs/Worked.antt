@@ -5,7 +5,7 @@ use mathlib.Core.List.{List, [], _∷_}
 use Prim.Native.Nat.{ℕ}
 use lib.ListN.{take}
 use Rattle.laws.specs.Reply.{answered, refused}
-use Rattle.words_rules.specs.Worked.{tens, gaps, two}
+use Rattle.words_rules.specs.Worked.{tens, gaps, zeros, two}
 use Rattle.estimate_rules.specs.Asking.{estimateReply}
 
 -- two bucketlets of width 3 and number 4, with the total 9
@@ -15,6 +15,10 @@ thirds = 6 ∷ 1 ∷ 0xC02 ∷ 1 ∷ 0x40000203 ∷ 0x85140000 ∷ 0x80000120 �
 -- 11, 11, 11, 1, each in a bucketlet of its own: 11 stands as 12, the total as 34
 abbrev pub elevens : List ℕ
 elevens = 4 ∷ 1 ∷ 0xC02 ∷ 1 ∷ 0x40000201 ∷ 0x88208040 ∷ 0x80000440 ∷ 0xC0040201 ∷ 0xC0000000 ∷ []
+
+-- 0, 0, 0, 10: the zeros in a bucketlet of their own
+abbrev pub late : List ℕ
+late = 4 ∷ 1 ∷ 0xC02 ∷ 1 ∷ 0x40000203 ∷ 0x801C0000 ∷ 0x80000140 ∷ 0xC0040000 ∷ 0xC0000000 ∷ []
 
 pub record Worked : Type 0 where
   pub one-to-three : estimateReply tens 1 3 ≡ answered 17
@@ -38,6 +42,10 @@ pub record Worked : Type 0 where
   pub bucket-inside : estimateReply two 2 10 ≡ answered 135
   pub both-inside : estimateReply two 0 10 ≡ answered 168
   pub neither-inside : estimateReply two 3 5 ≡ answered 7
+  -- where the sum is 0 the estimate is 1, of a whole bucket, of a part of a bucketlet and of a whole one, and the empty range gives 0
+  pub zeros-asked : estimateReply zeros 0 3 ∷ estimateReply zeros 1 2 ∷ estimateReply late 0 3 ∷ estimateReply zeros 3 3 ∷ [] ≡ answered 1 ∷ answered 1 ∷ answered 1 ∷ answered 0 ∷ []
+  -- and above 0 nothing is added
+  pub beside-zeros : estimateReply late 2 4 ∷ estimateReply late 0 4 ∷ [] ≡ answered 8 ∷ answered 10 ∷ []
   -- totals replace sums of classes, so a wider range may be estimated lower
   pub narrower : estimateReply elevens 0 3 ≡ answered 36
   pub wider : estimateReply elevens 0 4 ≡ answered 34

@@ -1,8 +1,7 @@
 -- The laws behind the estimator: what the coding answers, and that every sum it meets is small.
 -- Assumes nothing.
-use mathlib.Core.Path.{_≡_, sym, ap, _∙_}
+use mathlib.Core.Path.{_≡_}
 use mathlib.Core.Bool.{true}
-use mathlib.Core.Logic.{⊎-elim}
 use Prim.Native.Nat.{ℕ, _+_, _*_, _^_, _≤_}
 use native.Mathlib.Nat.{mul-le-mul-right, le-trans, pow-le-pow-right}
 use native.Mathlib.Omega.{arith}
@@ -16,19 +15,10 @@ use Rattle.words_rules.specs.Limits.{maxWidth}
 use Rattle.estimate_rules.specs.declared.Fraction.{Fraction}
 use Rattle.estimate_rules.proofs.CutLaws.{cuts, cuts-most}
 use Rattle.estimate_rules.proofs.SizeLaws.{Sized}
-use Rattle.estimator.specs.Private.Adding.{Small, ClassIn}
+use Rattle.estimator.specs.Private.Adding.{Small}
 
-none-value : (r : Reply) → r ≡ classMeaning 0 → r .value ≡ classNumber base 0
-unfolding classMeaning classNumber
-none-value r e = ap (λ (r : Reply). r .value) e
-
--- the value of what is answered for a class, which is 0 for class 0
-pub class-value : (c : ℕ) (r : Reply) → ClassIn c → r ≡ classMeaning c → r .value ≡ classNumber base c
-class-value c r h e =
-    ⊎-elim
-    (λ (z : c ≡ 0). none-value r (e ∙ ap classMeaning z) ∙ ap (classNumber base) (sym z))
-    (λ (u : usedClass c ≡ true). class-read c r u e .1)
-    h
+pub class-value : (c : ℕ) (r : Reply) → usedClass c ≡ true → r ≡ classMeaning c → r .value ≡ classNumber base c
+class-value c r h e = class-read c r h e .1
 
 pub total-value : (c : ℕ) (r : Reply) → validCode c ≡ true → r ≡ totalMeaning c → r .value ≡ totalNumber c
 total-value c r h e = total-read c r h e .1

@@ -2,14 +2,14 @@
 -- Assumes nothing.
 use mathlib.Core.Path.{_≡_, refl, sym, ap, subst, _∙_}
 use mathlib.Core.Bool.{true, false}
-use mathlib.Core.Logic.{inl, inr, ⊎-elim}
 use mathlib.Core.List.{List}
-use Prim.Native.Nat.{ℕ, suc, _+_, _^_, _≤_, _<_}
-use native.Mathlib.Nat.{eq-zero-or-pos, le-trans}
+use Prim.Native.Nat.{ℕ, suc, _+_, _≤_, _<_}
+use native.Mathlib.Nat.{le-trans}
 use native.Mathlib.Omega.{arith}
 use borrow.Author.Tests.{leb-true}
 use lib.Dec.{leb}
 use Rattle.laws.proofs.Tests.{both-left, both-right, is-false}
+use Rattle.counts_rules.specs.Form.{usedClass}
 use Rattle.counts_rules.specs.Total.{totalNumber, validCode}
 use Rattle.words_rules.specs.declared.Bucket.{Bucket}
 use Rattle.words_rules.specs.Words.{buckets, start, end}
@@ -24,8 +24,8 @@ use Rattle.estimate_rules.proofs.FractionLaws.{sum-none}
 use Rattle.estimate_rules.proofs.ExactLaws.{piece-none, bucket-whole, bucket-parts}
 use Rattle.estimate_rules.proofs.CutLaws.{rises}
 use Rattle.estimate_rules.proofs.SpanLaws.{bucketlets-rise, first-bucketlet, last-bucketlet, edge, edges-rise, edge-last, bucketlets-hold, buckets-hold}
-use Rattle.estimate_rules.proofs.SizeLaws.{Sized, sized-joined, bucketlet-sized, total-sized, class-small}
-use Rattle.estimator.specs.Private.Adding.{Small, ClassIn}
+use Rattle.estimate_rules.proofs.SizeLaws.{Sized, sized-joined, bucketlet-sized, total-sized}
+use Rattle.estimator.specs.Private.Adding.{Small}
 use Rattle.estimator.proofs.AskLaws.{small-of}
 
 -- the first k bucketlets of a bucket are summed
@@ -78,17 +78,8 @@ module _ (ws : List ℕ) (readable : Readable ws) (x y : ℕ) where
       pub starts : (a : ℕ) → a ≡ start ws b → a ≡ bucketletStart r 0
       starts a s = s ∙ of-bucket (λ (r : Bucket). start ws b ≡ bucketletStart r 0) (sym (first-bucketlet ws b))
 
-      pub class-in : (k : ℕ) → k < 8 → ClassIn (classAt r k)
-      class-in k l =
-          let holds = histogram .holds ws readable b h in
-          of-bucket (λ (r : Bucket). ClassIn (classAt r k))
-          (⊎-elim
-          (λ (z : widthAt (bucketAt ws b) k ≡ 0). inl (holds .empty-class k l z))
-          (λ (p : 0 < widthAt (bucketAt ws b) k). inr (holds .class-used k l p))
-          (eq-zero-or-pos (widthAt (bucketAt ws b) k)))
-
-      pub class-limit : (k : ℕ) → k < 8 → numberAt r k ≤ 2 ^ 31
-      class-limit k l = of-bucket (λ (r : Bucket). numberAt r k ≤ 2 ^ 31) (class-small ws readable x y b h k l)
+      pub class-used : (k : ℕ) → k < 8 → usedClass (classAt r k) ≡ true
+      class-used k l = of-bucket (λ (r : Bucket). usedClass (classAt r k) ≡ true) (histogram .holds ws readable b h .class-used k l)
 
       pub total-valid : validCode (r .total) ≡ true
       total-valid = of-bucket (λ (r : Bucket). validCode (r .total) ≡ true) (histogram .holds ws readable b h .total-valid)

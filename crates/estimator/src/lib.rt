@@ -6,7 +6,8 @@ use estimate_rules::Fraction;
 use pieces::exact_of;
 ghost use mathlib.Core.Path.{_≡_};
 ghost use Rattle.estimate_rules.specs.Fraction.{rounded};
-ghost use Rattle.estimate_rules.specs.Asking.{askFault, estimateReply};
+ghost use Rattle.words_rules.specs.Reading.{Readable};
+ghost use Rattle.estimate_rules.specs.Asking.{askFault, estimate, estimateReply};
 ghost use Rattle.estimator.specs.Asked.{askedReply, askedOf};
 ghost use Rattle.estimator.specs.Private.Adding.{Small};
 
@@ -40,7 +41,15 @@ fn rounded_of(e: Fraction) -> u64
     e.whole + (e.top + (e.bottom - 1)) / e.bottom
 }
 
-// The estimate of the range from x to y: one sum, rounded up once, and 0 for the empty range.
+// The estimate of a range that isn't empty: one sum, rounded up once, and at least 1.
+fn estimate_of(words: &[u32], x: u32, y: u32) -> u64
+    requires { ⌜ Readable (now words) × (x ≡ y → ⊥) ⌝ }
+    ensures { λ r. ⌜ r ≡ estimate (now (words .entry)) x y ⌝ }
+{
+    arithmetic::larger_of_wide(1, rounded_of(exact_of(words, x, y)))
+}
+
+// The estimate of the range from x to y, 0 if it is empty.
 pub fn estimate(words: &[u32], x: u32, y: u32) -> Asked
     ensures { λ r. ⌜ askedReply r ≡ estimateReply (now (words .entry)) x y ⌝ }
     ensures { λ r. ⌜ r ≡ askedOf (estimateReply (now (words .entry)) x y) ⌝ }
@@ -52,5 +61,5 @@ pub fn estimate(words: &[u32], x: u32, y: u32) -> Asked
     if x == y {
         return Asked::Estimate(0);
     }
-    Asked::Estimate(rounded_of(exact_of(words, x, y)))
+    Asked::Estimate(estimate_of(words, x, y))
 }

@@ -5,7 +5,7 @@ use estimate_rules::Fraction;
 ghost use mathlib.Core.Path.{_≡_};
 ghost use mathlib.Core.Bool.{true};
 ghost use Prim.Native.Nat.{_+_, _^_, _≤_, _<_};
-ghost use Rattle.counts_rules.specs.Form.{base};
+ghost use Rattle.counts_rules.specs.Form.{base, usedClass};
 ghost use Rattle.counts_rules.specs.Class.{classNumber};
 ghost use Rattle.counts_rules.specs.Total.{totalNumber, validCode};
 ghost use Rattle.counts.specs.Reply.{meaningReply};
@@ -13,7 +13,7 @@ ghost use Rattle.words_rules.specs.Words.{buckets};
 ghost use Rattle.words_rules.specs.Reading.{Readable};
 ghost use Rattle.estimate_rules.specs.Fraction.{plus};
 ghost use Rattle.estimate_rules.specs.Exact.{inside, overlap, piece, bucketPiece, exact};
-ghost use Rattle.estimator.specs.Private.Adding.{Small, ClassIn, Addable};
+ghost use Rattle.estimator.specs.Private.Adding.{Small, Addable};
 
 // The number that an answer of the coding holds, 0 if it is refused.
 fn number_in(answer: Meaning) -> u64
@@ -25,9 +25,8 @@ fn number_in(answer: Meaning) -> u64
     arithmetic::wide(s)
 }
 
-// The number of a bucketlet's class, 0 of class 0.
 fn class_number(class: u32) -> u64
-    requires { ⌜ ClassIn class ⌝ }
+    requires { ⌜ usedClass class ≡ true ⌝ }
     ensures { λ r. ⌜ r ≡ classNumber base class ⌝ }
 {
     number_in(counts::number_of_class(class))

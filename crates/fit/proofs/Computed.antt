@@ -8,4 +8,4 @@ use Rattle.fit.specs.Worked.{Worked}
 
 pub worked : Worked
 unfolding each first largest middle totalNumber rangesFit bucketletFits
-worked = record { near-edges = refl; theta-edges = refl; whole = refl; inside = refl; totals = refl }
+worked = record { near-edges = refl; theta-edges = refl; whole = refl; inside = refl; totals = refl; near-0 = refl; zeros = refl }

@@ -1,3 +1,6 @@
 pub mod Computed
 pub mod FitLaws
 pub mod FaultLaws
+pub mod AcceptedLaws
+pub mod ZeroLaws
+pub mod Proved

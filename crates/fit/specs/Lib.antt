@@ -1,3 +1,4 @@
 pub mod Fit
 pub mod Accepted
+pub mod Claims
 pub mod Worked

@@ -18,3 +18,10 @@ pub record Worked : Type 0 where
   pub inside : bucketletFits (quality 99 3 2) (1 ∷ 100 ∷ []) 0 2 93 ∷ bucketletFits (quality 100 3 2) (1 ∷ 100 ∷ []) 0 2 93 ∷ [] ≡ false ∷ true ∷ []
   -- a total is held to q whatever theta is: 4 as 9, and as 6
   pub totals : totalGood (quality 100 3 2) 4 288 ∷ totalGood (quality 100 3 2) 4 192 ∷ [] ≡ false ∷ true ∷ []
+  -- 0 is near 0 alone, and so is the estimate 0, which is not raised to 1 here
+  pub near-0 : near (quality 5 3 2) 0 0 3 ∷ near (quality 5 3 2) 0 1 3 ∷ near (quality 5 3 2) 1 0 3 ∷ [] ≡ true ∷ false ∷ false ∷ []
+  -- zeros as 0 and as 1, a 1 among them as 0, and zeros beside 5 that theta excuses
+  pub zeros :
+      bucketletFits (quality 5 3 2) (0 ∷ 0 ∷ 0 ∷ []) 0 3 0 ∷ bucketletFits (quality 5 3 2) (0 ∷ 0 ∷ 0 ∷ []) 0 3 1
+      ∷ bucketletFits (quality 5 3 2) (0 ∷ 1 ∷ 0 ∷ []) 0 3 0 ∷ bucketletFits (quality 5 3 2) (0 ∷ 5 ∷ 0 ∷ []) 0 3 4 ∷ []
+      ≡ true ∷ false ∷ false ∷ true ∷ []

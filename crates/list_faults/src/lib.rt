@@ -1,4 +1,4 @@
-// What a frequency list, theta and q are held to: sentences 1 to 5.
+// What a frequency list, theta and q are held to: sentences 1 and 3 to 5.
 
 ghost use mathlib.Core.Path.{_≡_};
 ghost use Prim.Native.Nat.{_≤_};
@@ -6,7 +6,7 @@ ghost use lib.ListN.{length};
 ghost use Rattle.laws.specs.Sums.{sum};
 ghost use Rattle.laws.specs.Refusal.{refusal};
 ghost use Rattle.list_rules.specs.Limits.{maxEntries, entriesGood, thetaGood, qGood};
-ghost use Rattle.list_rules.specs.Frequencies.{zeroFault, listFault};
+ghost use Rattle.list_rules.specs.Frequencies.{listFault};
 ghost use Rattle.list_rules.specs.Quality.{qualitySentences, inputSentences};
 
 // Of d, the number of entries.
@@ -35,20 +35,6 @@ pub fn q_good(qn: u32, qd: u32) -> bool
     5 * qd <= 4 * qn
 }
 
-// Whether a frequency is 0.
-fn has_zero(freqs: &[u32]) -> bool
-    ensures { λ r. ⌜ r ≡ zeroFault (now (freqs .entry)) ⌝ }
-{
-    let mut i: usize = 0;
-    while i < freqs.len() {
-        if freqs[i] == 0 {
-            return true;
-        }
-        i += 1;
-    }
-    false
-}
-
 // The sum of at most 65,536 frequencies.
 fn sum_of(freqs: &[u32]) -> u64
     requires { ⌜ length (now freqs) ≤ maxEntries ⌝ }
@@ -63,7 +49,7 @@ fn sum_of(freqs: &[u32]) -> u64
     sum
 }
 
-// 1, 2 or 3 if that sentence is true of the list and none before it is, else 0. The first is decided by the length alone.
+// 1 or 3 if that sentence is true of the list and none before it is, else 0. The first is decided by the length alone.
 pub fn list_fault(freqs: &[u32]) -> u32
     ensures { λ r. ⌜ r ≡ listFault (now (freqs .entry)) ⌝ }
 {
@@ -72,9 +58,6 @@ pub fn list_fault(freqs: &[u32]) -> u32
     }
     if 65536 < freqs.len() {
         return 1;
-    }
-    if has_zero(freqs) {
-        return 2;
     }
     if 1073741823 < sum_of(freqs) {
         return 3;
@@ -95,7 +78,7 @@ pub fn quality_fault(theta: u32, qn: u32, qd: u32) -> u32
     0
 }
 
-// 1 to 5: the first of these sentences that is true of what the builder is given, else 0.
+// 1 and 3 to 5: the first of these sentences that is true of what the builder is given, else 0.
 pub fn input_fault(freqs: &[u32], theta: u32, qn: u32, qd: u32) -> u32
     ensures { λ r. ⌜ r ≡ refusal (inputSentences (now (freqs .entry)) theta qn qd) ⌝ }
 {

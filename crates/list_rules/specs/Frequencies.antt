@@ -1,11 +1,11 @@
--- What makes a list no list of frequencies: sentences 1 to 3 (document 01, "When a call is turned away").
+-- What makes a list no list of frequencies: sentences 1 and 3 (document 01, "When a call is turned away"). A frequency may be 0, so that
+-- sentence 2 is no longer there (document 02, request iv).
 -- Assumes nothing.
 use mathlib.Core.Bool.{Bool, not}
 use mathlib.Core.List.{List, [], _∷_}
 use Prim.Native.Nat.{ℕ}
-use lib.Dec.{ltb, eqb}
-use lib.ListN.{length, getD}
-use Rattle.laws.specs.Each.{some}
+use lib.Dec.{ltb}
+use lib.ListN.{length}
 use Rattle.laws.specs.Refusal.{Sentence, refusal}
 use Rattle.laws.specs.Sums.{sum}
 use Rattle.counts_rules.specs.Limit.{limit}
@@ -15,10 +15,6 @@ use Rattle.list_rules.specs.Limits.{entriesGood}
 unfoldable pub entriesFault : List ℕ → Bool
 entriesFault fs = not (entriesGood (length fs))
 
--- 2: a frequency is 0
-unfoldable pub zeroFault : List ℕ → Bool
-zeroFault fs = some (length fs) (λ i. eqb (getD fs i 0) 0)
-
 -- 3: the frequencies sum to more than 1,073,741,823
 unfoldable pub sumFault : List ℕ → Bool
 sumFault fs = ltb limit (sum fs)
@@ -26,7 +22,6 @@ sumFault fs = ltb limit (sum fs)
 abbrev pub listSentences : List ℕ → List Sentence
 listSentences fs =
     record { number = 1; holds = entriesFault fs }
-    ∷ record { number = 2; holds = zeroFault fs }
     ∷ record { number = 3; holds = sumFault fs }
     ∷ []
 

@@ -1,4 +1,4 @@
--- What makes theta and q no quality of a histogram, and what the builder is given beside what it is lent: sentences 4 and 5, and 1 to 5
+-- What makes theta and q no quality of a histogram, and what the builder is given beside what it is lent: sentences 4 and 5, and 1 and 3 to 5
 -- (document 01, "When a call is turned away").
 -- Assumes nothing.
 use mathlib.Core.Bool.{not}
@@ -16,6 +16,6 @@ quality theta qn qd = record { theta = theta; qn = qn; qd = qd }
 abbrev pub qualitySentences : ℕ → ℕ → ℕ → List Sentence
 qualitySentences theta qn qd = record { number = 4; holds = not (thetaGood theta) } ∷ record { number = 5; holds = not (qGood qn qd) } ∷ []
 
--- 1 to 5, which do not depend on what is lent
+-- 1 and 3 to 5, which do not depend on what is lent
 abbrev pub inputSentences : List ℕ → ℕ → ℕ → ℕ → List Sentence
 inputSentences fs theta qn qd = listSentences fs ++ qualitySentences theta qn qd

@@ -13,14 +13,15 @@ pub record Worked : Type 0 where
   pub theta : map thetaGood (0 ∷ 1 ∷ 1048575 ∷ 1048576 ∷ []) ≡ false ∷ true ∷ true ∷ false ∷ []
   pub least-q : qGood 5 4 ∷ qGood 1000 800 ∷ qGood 124 100 ∷ qGood 1000 801 ∷ [] ≡ true ∷ true ∷ false ∷ false ∷ []
   pub q-parts : qGood 3 0 ∷ qGood 0 1 ∷ qGood 1000 1 ∷ qGood 1001 1 ∷ [] ≡ false ∷ false ∷ true ∷ false ∷ []
+  -- a list may hold zeros, even only zeros
+  pub zeros : listFault (0 ∷ 0 ∷ 0 ∷ []) ∷ listFault (0 ∷ 1073741823 ∷ 0 ∷ []) ∷ [] ≡ 0 ∷ 0 ∷ []
   pub sums : listFault (1073741823 ∷ []) ∷ listFault (1073741823 ∷ 1 ∷ []) ∷ [] ≡ 0 ∷ 3 ∷ []
-  -- each sentence before the next: an empty list, a frequency of 0, a large sum, theta 0, q 0/0
+  -- each sentence before the next: an empty list, a large sum, theta 0, q 0/0
   pub order :
       refusal (inputSentences [] 0 0 0)
-      ∷ refusal (inputSentences (0 ∷ 1073741824 ∷ []) 0 0 0)
       ∷ refusal (inputSentences (1073741824 ∷ []) 0 0 0)
       ∷ refusal (inputSentences (1 ∷ []) 0 0 0)
       ∷ refusal (inputSentences (1 ∷ []) 1 0 0)
       ∷ refusal (inputSentences (1 ∷ []) 1 5 4)
       ∷ []
-      ≡ 1 ∷ 2 ∷ 3 ∷ 4 ∷ 5 ∷ 0 ∷ []
+      ≡ 1 ∷ 3 ∷ 4 ∷ 5 ∷ 0 ∷ []

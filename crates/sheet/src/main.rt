@@ -73,7 +73,6 @@ fn say_input(line: usize) {
 // The sentence of a refusal, and what mends it.
 fn say_refused(number: u32, line: usize) {
     match number {
-        2 => say(b"sheet: A frequency is 0.\n"),
         3 => say(b"sheet: The frequencies sum to more than 1,073,741,823.\n"),
         4 => {
             say(b"sheet: Theta is outside its limits.\n");

@@ -16,6 +16,7 @@ use Rattle.laws.specs.Refusal.{Sentence, refusal}
 use Rattle.laws.proofs.Tests.{both-left, both-right, tested}
 use Rattle.laws.proofs.SumsLaws.{prefix-mono, prefix-all}
 use Rattle.counts_rules.specs.Total.{totalNumber}
+use Rattle.counts_rules.proofs.BaseLaws.{used-says}
 use Rattle.counts_rules.proofs.Proved.{classes, totals}
 use Rattle.words_rules.specs.declared.Bucket.{Bucket}
 use Rattle.words_rules.specs.Words.{entries, theta, qn, qd, buckets, start, end}
@@ -106,8 +107,8 @@ bucketlet-short r p k h = ⊎-elim none some (eq-zero-or-pos (widthAt r k))
         bucketlet-line-short (bucketletStart r k) (bucketletEnd r k) (classAt r k) (numberAt r k)
         (p .small k (omega arith))
         (p .small (suc k) (omega arith))
-        (omega (arith, p .class-bits k h))
-        (omega (arith, classes .number-small (classAt r k) (p .class-used k h q))) in
+        (omega (arith, used-says (classAt r k) (p .class-used k h) .0))
+        (omega (arith, classes .number-small (classAt r k) (p .class-used k h))) in
         record { within = omega (arith, ap length (some-part r k q), printed .within) }
 
 -- ---- a histogram
@@ -146,7 +147,6 @@ module _ (ws : List ℕ) (roomy : Roomy ws) where
             holds .in-range .ends,
             end-small,
           );
-          class-bits = holds .in-range .class-bits;
           class-used = holds .class-used;
         }
 

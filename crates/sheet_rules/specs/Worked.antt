@@ -15,9 +15,12 @@ pub record Worked : Type 0 where
   pub unreduced :
       sheet (ascii "1\n6\n4\n10\n")
       ≡ ascii "codes 1 theta 1 q 6/4 buckets 1\n" ++ ascii "bucket 0 1 total 320 10\n" ++ ascii "0 1 code 7 count 8\n"
-  -- 18 comes before every other number, then 2 before 4 and 5
-  pub zero : sheet (ascii "0\n0\n0\n0\n") ≡ ascii "refused 2\n"
-  pub sum : sheet (ascii "1\n3\n2\n1073741823\n1\n") ≡ ascii "refused 3\n"
+  -- a bucketlet of words that no longer occur is printed, for empty means width 0
+  pub zeros :
+      sheet (ascii "1\n3\n2\n0\n0\n0\n")
+      ≡ ascii "codes 3 theta 1 q 3/2 buckets 1\n" ++ ascii "bucket 0 3 total 0 0\n" ++ ascii "0 3 code 0 count 0\n"
+  -- 18 comes before every other number, then 3 before 4 and 5
+  pub sum : sheet (ascii "0\n0\n0\n1073741823\n1\n") ≡ ascii "refused 3\n"
   pub theta : sheet (ascii "0\n0\n0\n1\n") ≡ ascii "refused 4\n"
   pub q : sheet (ascii "1\n124\n100\n1\n") ≡ ascii "refused 5\n"
   pub no-list : sheet (ascii "1\n3\n2\n") ≡ ascii "refused 18\n"
@@ -33,7 +36,7 @@ pub record Worked : Type 0 where
   pub twenty-digits : asDescribed (ascii "1\n3\n2\n18446744073709551617\n") ≡ false
   -- what an input is refused with, and where it stops being as described
   pub taken : sheetFault (ascii "1\n3\n2\n1\n100\n") ≡ 0
-  pub zero-fault : sheetFault (ascii "0\n0\n0\n0\n") ≡ 2
+  pub sum-fault : sheetFault (ascii "0\n0\n0\n1073741824\n") ≡ 3
   pub theta-fault : sheetFault (ascii "0\n0\n0\n1\n") ≡ 4
   pub input-fault : sheetFault (ascii "1\n3\n2\n1,000\n") ≡ 18
   pub comma-line : faultLine (ascii "1\n3\n2\n1,000\n5\n") ≡ 4

@@ -40,10 +40,10 @@ fn put_bucketlet(
     ensures { λ r. ⌜ Put (now (out .entry)) (now (out .exit)) at r (bucketletPart bucket k) ⌝ }
 {
     let width = bucket.widths[k];
+    let class = bucket.classes[k];
     if width == 0 {
         return at;
     }
-    let class = bucket.classes[k];
     let Meaning::Number(number) = counts::number_of_class(class) else {
         return at;
     };

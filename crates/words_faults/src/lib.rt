@@ -4,7 +4,7 @@ use words_rules::BUCKET_WORDS;
 use words_rules::Bucket;
 use words_rules::Head;
 ghost use mathlib.Core.Path.{_≡_};
-ghost use Rattle.words_rules.specs.Reading.{headGood, wordsBroken, widthsBroken, classBroken, codesBroken};
+ghost use Rattle.words_rules.specs.Reading.{headGood, wordsBroken, widthsBroken, classBroken, someClass, totalBroken, codesBroken};
 
 // Whether d, theta, q and the number of buckets are within their limits.
 pub fn head_good(head: Head) -> bool
@@ -54,17 +54,38 @@ pub fn widths_broken(span: u32, listed: u32) -> bool
     4095 < span - listed
 }
 
-// Whether a class other than 0 is one that no count has, or a class is 0 where the width is not or the reverse.
+// Whether a class is one that no count has, or is not 0 where the width is.
 pub fn class_broken(width: u32, class: u32) -> bool
     ensures { λ r. ⌜ r ≡ classBroken width class ⌝ }
 {
-    if class == 0 {
-        return width != 0;
+    if width == 0 {
+        return class != 0;
     }
-    if !counts::is_used_class(class) {
-        return true;
+    !counts::is_used_class(class)
+}
+
+// Whether one of the eight classes is not 0.
+fn some_class(bucket: Bucket) -> bool
+    ensures { λ r. ⌜ r ≡ someClass bucket ⌝ }
+{
+    let mut k: usize = 0;
+    while k < 8 {
+        if bucket.classes[k] != 0 {
+            return true;
+        }
+        k += 1;
     }
-    width == 0
+    false
+}
+
+// Whether the total code is not valid; 0 belongs to eight classes 0.
+fn total_broken(bucket: Bucket) -> bool
+    ensures { λ r. ⌜ r ≡ totalBroken bucket ⌝ }
+{
+    if bucket.total == 0 {
+        return some_class(bucket);
+    }
+    !counts::is_total_code(bucket.total)
 }
 
 // Whether a bucket has a class or a total code that is not valid where it stands.
@@ -76,5 +97,5 @@ pub fn codes_broken(bucket: Bucket) -> bool
             return true;
         }
     }
-    !counts::is_total_code(bucket.total)
+    total_broken(bucket)
 }

@@ -1,14 +1,17 @@
--- What a bucket's widths and classes are where they are not at fault (specs/Reading.antt, sentences 11 and 12).
+-- What a bucket's widths, classes and total are where they are not at fault (specs/Reading.antt, sentences 11 and 12).
 -- Assumes nothing.
-use mathlib.Core.Path.{_≡_}
+use mathlib.Core.Path.{_≡_, refl}
 use mathlib.Core.Bool.{Bool, true, false, not, _&&_, _||_}
 use Prim.Native.Nat.{ℕ, _-_, _≤_, _<_}
-use native.Mathlib.Omega.{arith}
-use borrow.Author.Tests.{ltb-false, le-ltb, eqb-true, eqb-false, eq-eqb, ne-eqb, not-true, not-false}
+use borrow.Author.Tests.{ltb-false, le-ltb, eqb-true, eq-eqb, ne-eqb, not-true, not-false}
 use lib.Dec.{ltb, eqb}
-use Rattle.laws.proofs.Tests.{true-not-false, both-left, both-right, fails-other, neither, neither-left, neither-right, not-holds, is-false}
+use Rattle.laws.proofs.EachLaws.{none-at, some-none}
+use Rattle.laws.proofs.Tests.{true-not-false, both-left, both-right, fails-other, neither, neither-left, neither-right, not-fails, is-false}
 use Rattle.counts_rules.specs.Form.{usedClass}
-use Rattle.words_rules.specs.Reading.{widthsBroken, classBroken}
+use Rattle.counts_rules.specs.Total.{validFields, validCode}
+use Rattle.words_rules.specs.declared.Bucket.{Bucket}
+use Rattle.words_rules.specs.Decoded.{classAt}
+use Rattle.words_rules.specs.Reading.{widthsBroken, classBroken, hasClass, someClass, totalBroken}
 use Rattle.words_rules.specs.Limits.{maxWidth}
 
 -- the listed widths lie within the span, and leave at most 4,095 of it
@@ -29,42 +32,70 @@ module _ (span listed : ℕ) where
   unfolding widthsBroken
   no-width-fault r = neither (ltb span listed) _ (le-ltb span listed (r .inside)) (le-ltb maxWidth (span - listed) (r .left))
 
--- a class is 0 or one that counts have, and is 0 exactly where the width is
+or-false : (t : Bool) → (t || false) ≡ t
+or-false true = refl
+or-false false = refl
+
+-- a class is one that counts have, and is 0 where the width is
 pub record ClassGood (width class : ℕ) : Type 0 where
-  pub known : (class ≡ 0 → ⊥) → usedClass class ≡ true
+  pub known : usedClass class ≡ true
   pub empty : width ≡ 0 → class ≡ 0
-  pub full : class ≡ 0 → width ≡ 0
 
 module _ (width class : ℕ) where
+  abbrev at-none : Bool
+  at-none = eqb width 0 && not (eqb class 0)
+
   pub class-good : classBroken width class ≡ false → ClassGood width class
   unfolding classBroken
   class-good f =
-      let x = not (eqb class 0) in
-      let y = not (usedClass class) in
-      let u = eqb class 0 && not (eqb width 0) in
-      let v = eqb width 0 && not (eqb class 0) in
-      let xy = neither-left (x && y) (u || v) f in
-      let uv = neither-right (x && y) (u || v) f in
       record {
-        known = λ n. not-false _ (fails-other x y xy (not-holds _ (ne-eqb class 0 n)));
-        empty = λ e. eqb-true class 0 (not-false _ (fails-other (eqb width 0) _ (neither-right u v uv) (eq-eqb width 0 e)));
-        full = λ e. eqb-true width 0 (not-false _ (fails-other (eqb class 0) _ (neither-left u v uv) (eq-eqb class 0 e)));
+        known = not-false _ (neither-left (not (usedClass class)) at-none f);
+        empty = λ e. eqb-true class 0 (not-false _ (fails-other (eqb width 0) _ (neither-right (not (usedClass class)) at-none f) (eq-eqb width 0 e)));
       }
 
   pub no-class-fault : ClassGood width class → classBroken width class ≡ false
   unfolding classBroken
   no-class-fault g =
-      let x = not (eqb class 0) in
-      let y = not (usedClass class) in
-      let u = eqb class 0 && not (eqb width 0) in
-      let v = eqb width 0 && not (eqb class 0) in
-      let xy : (x && y) ≡ false = is-false (x && y) (λ t. not-both x (usedClass class) t (λ e. g .known (eqb-false class 0 (not-true _ e)))) in
-      let u-fails : u ≡ false = is-false u (λ t. not-both (eqb class 0) (eqb width 0) t (λ e. eq-eqb width 0 (g .full (eqb-true class 0 e)))) in
-      let v-fails : v ≡ false = is-false v (λ t. not-both (eqb width 0) (eqb class 0) t (λ e. eq-eqb class 0 (g .empty (eqb-true width 0 e)))) in
-      neither (x && y) (u || v) xy (neither u v u-fails v-fails)
-    where
-      not-both : (a b : Bool) → (a && not b) ≡ true → (a ≡ true → b ≡ true) → ⊥
-      not-both a b t h = true-not-false (h (both-left a (not b) t)) (not-true b (both-right a (not b) t))
+      neither (not (usedClass class)) at-none (not-fails _ (g .known))
+      (is-false at-none (λ t. true-not-false
+      (eq-eqb class 0 (g .empty (eqb-true width 0 (both-left (eqb width 0) _ t))))
+      (not-true (eqb class 0) (both-right (eqb width 0) _ t))))
 
-  pub class-used : ClassGood width class → 0 < width → usedClass class ≡ true
-  class-used g l = g .known (λ e. let k : width ≡ 0 = g .full e in omega arith)
+  -- at a width the class alone decides
+  pub class-at-width : (width ≡ 0 → ⊥) → classBroken width class ≡ not (usedClass class)
+  unfolding classBroken
+  class-at-width n = simp (ne-eqb width 0 n) (or-false (not (usedClass class)))
+
+-- a total code is valid, and 0 only where the eight classes are
+pub record TotalGood (r : Bucket) : Type 0 where
+  pub valid : validCode (r .total) ≡ true
+  pub none : r .total ≡ 0 → (k : ℕ) → k < 8 → classAt r k ≡ 0
+
+module _ (r : Bucket) where
+  no-class : someClass r ≡ false → (k : ℕ) → k < 8 → classAt r k ≡ 0
+  no-class f k h = eqb-true (classAt r k) 0 (not-false _ (none-at 8 (hasClass r) f k h))
+
+  pub total-good : totalBroken r ≡ false → TotalGood r
+  unfolding totalBroken
+  total-good f =
+      record {
+        valid = not-false _ (neither-left (not (validCode (r .total))) _ f);
+        none = λ e. no-class (fails-other (eqb (r .total) 0) _ (neither-right (not (validCode (r .total))) _ f) (eq-eqb (r .total) 0 e));
+      }
+
+  pub no-total-fault : TotalGood r → totalBroken r ≡ false
+  unfolding totalBroken
+  no-total-fault g =
+      neither (not (validCode (r .total))) _ (not-fails _ (g .valid))
+      (is-false (eqb (r .total) 0 && someClass r) (λ t. true-not-false
+      (both-right (eqb (r .total) 0) _ t)
+      (some-none 8 (hasClass r) (λ k h. not-fails _ (eq-eqb (classAt r k) 0 (g .none (eqb-true (r .total) 0 (both-left (eqb (r .total) 0) _ t)) k h))))))
+
+  -- code 0 is valid
+  pub total-at-0 : r .total ≡ 0 → totalBroken r ≡ someClass r
+  unfolding totalBroken validFields
+  total-at-0 e = rw e
+
+  pub total-else : (r .total ≡ 0 → ⊥) → totalBroken r ≡ not (validCode (r .total))
+  unfolding totalBroken
+  total-else n = simp (ne-eqb (r .total) 0 n) (or-false (not (validCode (r .total))))

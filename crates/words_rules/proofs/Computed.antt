@@ -6,7 +6,7 @@ use Rattle.laws.specs.Refusal.{refusal}
 use Rattle.laws.specs.Search.{first}
 use Rattle.counts_rules.specs.Total.{validFields}
 use Rattle.words_rules.specs.Decoded.{decode, encode}
-use Rattle.words_rules.specs.Reading.{headGood, headFault, lengthFault, wordsBroken, wordFault, startFault, widthsBroken, widthFault, classBroken, codesBroken, codeFault}
+use Rattle.words_rules.specs.Reading.{headGood, headFault, lengthFault, wordsBroken, wordFault, startFault, widthsBroken, widthFault, classBroken, totalBroken, codesBroken, codeFault}
 use Rattle.words_rules.specs.Finding.{bucketOf, findReply, bucketletOf}
 use Rattle.words_rules.specs.Worked.{Decoding, Faults, Found}
 
@@ -26,7 +26,7 @@ decoding =
     }
 
 pub faults : Faults
-unfolding each some refusal validFields decode headGood headFault lengthFault wordsBroken wordFault startFault widthsBroken widthFault classBroken codesBroken codeFault
+unfolding each some refusal validFields decode headGood headFault lengthFault wordsBroken wordFault startFault widthsBroken widthFault classBroken totalBroken codesBroken codeFault
 faults =
     record {
       readable = refl;
@@ -44,10 +44,11 @@ faults =
       starts = refl;
       widths = refl;
       classes = refl;
+      code-0 = refl;
       codes = refl;
       order = refl;
     }
 
 pub found : Found
-unfolding each some refusal validFields decode headGood headFault lengthFault wordsBroken wordFault startFault widthsBroken widthFault classBroken codesBroken codeFault bucketOf findReply bucketletOf first
+unfolding each some refusal validFields decode headGood headFault lengthFault wordsBroken wordFault startFault widthsBroken widthFault classBroken totalBroken codesBroken codeFault bucketOf findReply bucketletOf first
 found = record { buckets-of = refl; bucketlets-of = refl; first = refl; second = refl; faults = refl; refused = refl; places = refl }

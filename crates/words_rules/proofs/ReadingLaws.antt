@@ -1,7 +1,7 @@
 -- What is known of a readable list (specs/Claims.antt): sentences 7 to 12 are false, which says what the files beside this one draw from it.
 -- Assumes nothing.
 use mathlib.Core.Path.{_≡_, refl}
-use mathlib.Core.Bool.{true, false, not}
+use mathlib.Core.Bool.{true, false}
 use mathlib.Core.List.{List}
 use Prim.Native.Nat.{ℕ, zero, suc, _+_, _^_, _≤_, _<_}
 use native.Mathlib.Omega.{arith}
@@ -12,17 +12,16 @@ use Rattle.laws.specs.Sums.{sum}
 use Rattle.laws.proofs.EachLaws.{none-at}
 use Rattle.laws.proofs.RefusalLaws.{numbered, none-true}
 use Rattle.laws.proofs.Tests.{neither-left, neither-right}
-use Rattle.counts_rules.specs.Total.{validCode}
 use Rattle.words_rules.specs.Words.{word, kind, entries, theta, qn, qd, buckets, headOf, packedAt, startIn, listedIn, start, end, span}
 use Rattle.words_rules.specs.Decoded.{classAt, bucketAt, widthAt}
-use Rattle.words_rules.specs.Reading.{headFault, lengthFault, wordFault, startFault, widthsBroken, widthFault, classBroken, codesBroken, codeFault, readSentences, readFault, Readable}
+use Rattle.words_rules.specs.Reading.{headFault, lengthFault, wordFault, startFault, widthsBroken, widthFault, classBroken, totalBroken, codesBroken, codeFault, readSentences, readFault, Readable}
 use Rattle.words_rules.specs.Claims.{HeadLimits, Holds}
 use Rattle.words_rules.proofs.DecodedLaws.{decoded, decoded-sum, decoded-width}
 use Rattle.laws.proofs.BetweenLaws.{within}
 use Rattle.list_rules.proofs.LimitLaws.{good-q}
 use Rattle.words_rules.proofs.HeadLaws.{good-head, head-words}
 use Rattle.words_rules.proofs.StartLaws.{Starts, starts, tiles}
-use Rattle.words_rules.proofs.CodeLaws.{Room, room, ClassGood, class-good, class-used}
+use Rattle.words_rules.proofs.CodeLaws.{Room, room, ClassGood, class-good, TotalGood, total-good}
 use Rattle.words_rules.specs.Limits.{maxWidth}
 use Rattle.list_rules.specs.Limits.{maxEntries, maxTheta}
 
@@ -122,18 +121,23 @@ module _ (ws : List ℕ) (f : NoFault ws) (b : ℕ) (h : b < buckets ws) where
   unfolding codesBroken
   class-in k g =
       let r = bucketAt ws b in
-      class-good _ _ (none-at 8 (λ k. classBroken (widthAt r k) (classAt r k)) (neither-left _ (not (validCode (r .total))) codes-in) k g)
+      class-good _ _ (none-at 8 (λ k. classBroken (widthAt r k) (classAt r k)) (neither-left _ (totalBroken r) codes-in) k g)
+
+  total-in : TotalGood (bucketAt ws b)
+  unfolding codesBroken
+  total-in =
+      let r = bucketAt ws b in
+      total-good r (neither-right (some 8 (λ k. classBroken (widthAt r k) (classAt r k))) (totalBroken r) codes-in)
 
   pub holds : Holds ws b
-  unfolding codesBroken
   holds =
       let packed = packedAt ws b in
-      let r = bucketAt ws b in
       record {
         in-range = decoded packed (end ws b) fits-in;
         spanned = decoded-sum packed (end ws b) fits-in;
         widths = decoded-width packed (end ws b) maxWidth (omega arith) (room-in .left);
         empty-class = λ k g. class-in k g .empty;
-        class-used = λ k g. class-used _ _ (class-in k g);
-        total-valid = not-false _ (neither-right (some 8 (λ k. classBroken (widthAt r k) (classAt r k))) (not (validCode (r .total))) codes-in);
+        class-used = λ k g. class-in k g .known;
+        total-valid = total-in .valid;
+        total-0 = total-in .none;
       }

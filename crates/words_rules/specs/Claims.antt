@@ -98,8 +98,9 @@ pub record Holds (ws : List ℕ) (b : ℕ) : Type 0 where
   pub spanned : sum (bucketAt ws b .widths) ≡ span ws b
   pub widths : (k : ℕ) → widthAt (bucketAt ws b) k ≤ maxWidth
   pub empty-class : (k : ℕ) → k < 8 → widthAt (bucketAt ws b) k ≡ 0 → classAt (bucketAt ws b) k ≡ 0
-  pub class-used : (k : ℕ) → k < 8 → 0 < widthAt (bucketAt ws b) k → usedClass (classAt (bucketAt ws b) k) ≡ true
+  pub class-used : (k : ℕ) → k < 8 → usedClass (classAt (bucketAt ws b) k) ≡ true
   pub total-valid : validCode (bucketAt ws b .total) ≡ true
+  pub total-0 : bucketAt ws b .total ≡ 0 → (k : ℕ) → k < 8 → classAt (bucketAt ws b) k ≡ 0
 
 pub record Histogram : Type 0 where
   pub limits : (ws : List ℕ) → Readable ws → HeadLimits ws

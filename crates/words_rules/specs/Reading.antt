@@ -65,13 +65,24 @@ widthsBroken span listed = ltb span listed || ltb maxWidth (span - listed)
 unfoldable pub widthFault : List ℕ → Bool
 widthFault ws = some (buckets ws) (λ b. widthsBroken (span ws b) (sum (listedIn (packedAt ws b))))
 
--- 12: a class is 2 or 63, which are those of six bits but for 0 that no count has, a class is 0 where the width is not or the reverse, or a total code is not valid
+-- 12: a class is 2 or 63, which are those of six bits that no count has, a width is 0 and its class is not, or a total code is not valid; code 0 is
+-- valid exactly when all eight classes are 0 (document 02, request iv)
 
 unfoldable pub classBroken : ℕ → ℕ → Bool
-classBroken width class = (not (eqb class 0) && not (usedClass class)) || (eqb class 0 && not (eqb width 0) || eqb width 0 && not (eqb class 0))
+classBroken width class = not (usedClass class) || eqb width 0 && not (eqb class 0)
+
+abbrev pub hasClass : Bucket → ℕ → Bool
+hasClass r k = not (eqb (classAt r k) 0)
+
+-- one of the eight classes is not 0
+abbrev pub someClass : Bucket → Bool
+someClass r = some 8 (hasClass r)
+
+unfoldable pub totalBroken : Bucket → Bool
+totalBroken r = not (validCode (r .total)) || eqb (r .total) 0 && someClass r
 
 unfoldable pub codesBroken : Bucket → Bool
-codesBroken r = some 8 (λ k. classBroken (widthAt r k) (classAt r k)) || not (validCode (r .total))
+codesBroken r = some 8 (λ k. classBroken (widthAt r k) (classAt r k)) || totalBroken r
 
 unfoldable pub codeFault : List ℕ → Bool
 codeFault ws = some (buckets ws) (λ b. codesBroken (bucketAt ws b))

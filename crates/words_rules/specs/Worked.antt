@@ -58,6 +58,10 @@ fullWords = 0x4016B9FF ∷ 0xBE06148C ∷ 0x87A15FF7 ∷ 0xC7F80701 ∷ 0xC20884
 abbrev pub gaps : List ℕ
 gaps = 6 ∷ 1 ∷ 0x801 ∷ 1 ∷ 0x40000002 ∷ 0x80200005 ∷ 0x80240420 ∷ 0xC0000001 ∷ 0xC0000600 ∷ []
 
+-- 0, 0, 0, theta 1, q 3/2
+abbrev pub zeros : List ℕ
+zeros = 3 ∷ 1 ∷ 0xC02 ∷ 1 ∷ 0x40000203 ∷ 0x80000000 ∷ 0x80000000 ∷ 0xC0000000 ∷ 0xC0000000 ∷ []
+
 -- two buckets, of the entries 0 to 3 and 4 to 9
 abbrev pub two : List ℕ
 two =
@@ -91,7 +95,7 @@ abbrev pub changed : List ℕ → ℕ → ℕ → ℕ
 changed ws i w = readFault (set ws i w)
 
 pub record Faults : Type 0 where
-  pub readable : map readFault (tens ∷ pair ∷ gaps ∷ two ∷ wide ∷ []) ≡ 0 ∷ 0 ∷ 0 ∷ 0 ∷ 0 ∷ []
+  pub readable : map readFault (tens ∷ pair ∷ gaps ∷ zeros ∷ two ∷ wide ∷ []) ≡ 0 ∷ 0 ∷ 0 ∷ 0 ∷ 0 ∷ 0 ∷ []
   -- a first bucketlet may be free however narrow it is
   pub free-first : changed tens 4 0x40000000 ≡ 0
   -- 7: too few words; d, theta, a bit above q, qn, qd, q below 5/4, the number of buckets
@@ -115,10 +119,14 @@ pub record Faults : Type 0 where
   pub starts : changed two 4 0x40000601 ∷ changed two 9 0x40000001 ∷ changed two 9 0x40002801 ∷ changed two 9 0x45000001 ∷ [] ≡ 10 ∷ 10 ∷ 10 ∷ 10 ∷ []
   -- 11: a free width of 4,096, and listed widths of 5 and 6 in a span of 4
   pub widths : changed (set wide 0 4097) 9 0x40400201 ∷ changed two 4 0x40000202 ∷ changed two 4 0x40000203 ∷ [] ≡ 11 ∷ 11 ∷ 11 ∷ []
-  -- 12: a class at no width, the classes 2 and 63, class 0 at a width, also at the free one, and total codes
+  -- 12: a class at no width, the classes 2 and 63, and total codes; class 0 may stand at a width, also at the free one
   pub classes :
       changed tens 5 0x8B000001 ∷ changed tens 5 0x82000000 ∷ changed tens 5 0xBF000000 ∷ changed tens 5 0x80000000 ∷ changed tens 4 0x40000203 ∷ []
-      ≡ 12 ∷ 12 ∷ 12 ∷ 12 ∷ 12 ∷ []
+      ≡ 12 ∷ 12 ∷ 12 ∷ 0 ∷ 0 ∷ []
+  -- code 0 belongs to eight classes 0, and they may have another: class 1 in the first and in the last place, and code 32
+  pub code-0 :
+      changed zeros 5 0x81000000 ∷ changed (set zeros 4 0x40000202) 6 0x80001000 ∷ changed zeros 6 0x80000020 ∷ []
+      ≡ 12 ∷ 12 ∷ 0 ∷ []
   pub codes : changed tens 6 0x80000000 ∷ changed tens 6 0x80000FF7 ∷ changed tens 6 0x80000FF8 ∷ changed tens 6 0x800007E1 ∷ changed tens 6 0x80000801 ∷ [] ≡ 12 ∷ 0 ∷ 12 ∷ 12 ∷ 0 ∷ []
   -- each is tested over all buckets before the next: a class 63 in the first bucket, and in the second a bit outside its field, a start at d,
   -- listed widths that exceed it

@@ -80,6 +80,10 @@ fn coded(coded: QhCoded) -> Result<u32, Refusal> {
 /// assert_ne!(second_class(&build(&[1, 100], 99, 3, 2)?), 0);
 /// assert_eq!(second_class(&build(&[1, 100], 100, 3, 2)?), 0);
 ///
+/// // Words that no longer occur.
+/// let words = build(&[0, 0, 0], 1, 3, 2)?;
+/// assert_eq!(words[4..], [0x40000203, 0x80000000, 0x80000000, 0xC0000000, 0xC0000000]);
+///
 /// assert!(build(&[1], 1, 5, 4).is_ok());
 /// assert_eq!(build(&[1], 1, 124, 100), Err(Refusal::Q));
 /// assert!(build(&[1_073_741_823], 1, 3, 2).is_ok());
@@ -126,7 +130,7 @@ pub fn check(freqs: &[u32], words: &[u32]) -> Result<Verdict, Refusal> {
     Ok(Verdict::Fails { sort, start: verdict.start, end: verdict.end })
 }
 
-/// The estimated count of the entries from x up to y, without y.
+/// The estimated count of the entries from x up to y, without y: 0 for the empty range alone.
 ///
 /// ```
 /// use qh::{build, estimate, Refusal};
@@ -137,6 +141,7 @@ pub fn check(freqs: &[u32], words: &[u32]) -> Result<Verdict, Refusal> {
 /// assert_eq!(estimate(&words, 2, 2)?, 0);
 /// assert_eq!(estimate(&words, 4, 4)?, 0);
 /// assert_eq!(estimate(&words, 4, 5), Err(Refusal::Range));
+/// assert_eq!(estimate(&build(&[0, 0, 0], 1, 3, 2)?, 0, 3)?, 1);
 /// # Ok::<(), Refusal>(())
 /// ```
 pub fn estimate(words: &[u32], x: u32, y: u32) -> Result<u64, Refusal> {
@@ -162,8 +167,8 @@ pub fn find(words: &[u32], entry: u32) -> Result<&[u32], Refusal> {
 ///
 /// ```
 /// use qh::{class_of, Refusal};
-/// assert_eq!([1, 2, 5, 10, 11, 100].map(class_of), [1, 3, 5, 7, 8, 14].map(Ok));
-/// assert_eq!(class_of(0), Err(Refusal::Count));
+/// assert_eq!([0, 1, 2, 5, 10, 11, 100].map(class_of), [0, 1, 3, 5, 7, 8, 14].map(Ok));
+/// assert_eq!(class_of(1_073_741_824), Err(Refusal::Count));
 /// ```
 pub fn class_of(count: u32) -> Result<u32, Refusal> {
     coded(unsafe { qh_class_of(count) })
@@ -173,8 +178,8 @@ pub fn class_of(count: u32) -> Result<u32, Refusal> {
 ///
 /// ```
 /// use qh::{number_of_class, Refusal};
-/// assert_eq!([1, 3, 5, 7, 8, 14, 11].map(number_of_class), [1, 2, 4, 8, 12, 93, 34].map(Ok));
-/// assert_eq!([0, 2, 63].map(number_of_class), [Err(Refusal::Reading); 3]);
+/// assert_eq!([0, 1, 3, 5, 7, 8, 14, 11].map(number_of_class), [0, 1, 2, 4, 8, 12, 93, 34].map(Ok));
+/// assert_eq!([2, 63].map(number_of_class), [Err(Refusal::Reading); 2]);
 /// ```
 pub fn number_of_class(class: u32) -> Result<u32, Refusal> {
     coded(unsafe { qh_number_of_class(class) })
@@ -184,7 +189,7 @@ pub fn number_of_class(class: u32) -> Result<u32, Refusal> {
 ///
 /// ```
 /// use qh::{code_of_total, Refusal};
-/// assert_eq!([127, 128, 1000].map(code_of_total), [4064, 2049, 4003].map(Ok));
+/// assert_eq!([0, 127, 128, 1000].map(code_of_total), [0, 4064, 2049, 4003].map(Ok));
 /// assert_eq!(code_of_total(1_073_741_824), Err(Refusal::Count));
 /// ```
 pub fn code_of_total(total: u32) -> Result<u32, Refusal> {
@@ -195,8 +200,8 @@ pub fn code_of_total(total: u32) -> Result<u32, Refusal> {
 ///
 /// ```
 /// use qh::{number_of_total, Refusal};
-/// assert_eq!([4064, 2049, 4003].map(number_of_total), [127, 128, 1003].map(Ok));
-/// assert_eq!(number_of_total(0), Err(Refusal::Reading));
+/// assert_eq!([0, 4064, 2049, 4003].map(number_of_total), [0, 127, 128, 1003].map(Ok));
+/// assert_eq!(number_of_total(2072), Err(Refusal::Reading));
 /// ```
 pub fn number_of_total(code: u32) -> Result<u32, Refusal> {
     coded(unsafe { qh_number_of_total(code) })

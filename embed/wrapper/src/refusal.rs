@@ -29,7 +29,6 @@ macro_rules! refusals {
 
 refusals! {
     ListLength = 1, "The frequency list has no entry or more than 65,536.";
-    ZeroFrequency = 2, "A frequency is 0.";
     Sum = 3, "The frequencies sum to more than 1,073,741,823.";
     Theta = 4, "Theta is outside its limits.";
     Q = 5, "q is outside its limits.";
@@ -39,12 +38,12 @@ refusals! {
     BucketWord = 9, "A bucket word has a wrong kind or a set bit outside its fields.";
     Start = 10, "The first start is not 0, or a start is not above the one before it, or not below d.";
     Width = 11, "The listed widths exceed their bucket, or the free width is above 4,095.";
-    Code = 12, "A class is 2 or 63, a class is 0 where the width is not or the reverse, or a total code is not valid.";
+    Code = 12, "A class is 2 or 63, a width is 0 and its class is not, or a total code is not valid; code 0 is valid exactly when all eight classes are 0.";
     OtherList = 13, "The frequency list is not d long.";
     Range = 14, "x is above y, or y is above d.";
     Entry = 15, "The entry is not below d.";
-    Count = 16, "A count to be coded, as class or total, is 0 or above 1,073,741,823.";
-    Reading = 17, "A class to be read is 0, 2, 63 or above, or a total code to be read is not valid.";
+    Count = 16, "A count to be coded, as class or total, is above 1,073,741,823.";
+    Reading = 17, "A class to be read is 2, 63 or above, or a total code to be read is not valid.";
     Input = 18, "The input is not theta, qn, qd and 1 to 4,096 frequencies: decimal numbers below 4,294,967,296 without leading zeros, one a line, each line ended by a line feed.";
 }
 
@@ -63,7 +62,7 @@ impl Refusal {
     /// ```
     /// use qh::Refusal;
     /// assert_eq!(Refusal::from_number(14), Some(Refusal::Range));
-    /// assert_eq!([0, 19].map(Refusal::from_number), [None; 2]);
+    /// assert_eq!([0, 2, 19].map(Refusal::from_number), [None; 3]);
     /// assert!(Refusal::ALL.iter().all(|r| Refusal::from_number(r.number()) == Some(*r)));
     /// ```
     pub fn from_number(number: u32) -> Option<Refusal> {

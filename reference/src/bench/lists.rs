@@ -18,13 +18,14 @@ impl List {
     }
 }
 
-/// Three made lists of 65,536 entries, then the real ones.
+/// Four made lists of 65,536 entries, then the real ones.
 pub fn all(real: Vec<List>) -> Vec<List> {
-    let mut random = Random::new(1);
+    let (mut random, mut sparse) = (Random::new(1), Random::new(2));
     let mut lists = vec![
         List::made("flat", |_| 10),
         List::made("random", |_| random.between(1, 100) as u32),
         List::made("steep", |rank| 60_000_000 / (rank as u32 + 1)),
+        List::made("sparse", |_| if sparse.chance(1, 100) { sparse.between(1, 100) as u32 } else { 0 }),
     ];
     lists.extend(real);
     lists

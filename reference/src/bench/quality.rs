@@ -40,8 +40,13 @@ impl Summed {
         Summed { buckets, totals }
     }
 
-    /// The estimate of a range that is not empty. Whole buckets may be added after rounding.
+    /// The estimate of a range that is not empty.
     fn estimate(&self, x: u32, y: u32) -> u64 {
+        self.rounded_up(x, y).max(1)
+    }
+
+    /// Whole buckets may be added after rounding.
+    fn rounded_up(&self, x: u32, y: u32) -> u64 {
         let bucket_of = |entry: u32| self.buckets.partition_point(|bucket| bucket.start <= entry) - 1;
         let (first, last) = (bucket_of(x), bucket_of(y - 1));
         if first == last {
@@ -70,6 +75,7 @@ fn largest(theta: u32, sums: &[u64], ranges: &[(u32, u32)], estimate: impl Fn(u3
 fn shown(factor: f64) -> String {
     match factor {
         0.0..100.0 => format!("{factor:.2}"),
+        f64::INFINITY => "infinite".to_string(),
         _ => grouped(factor.round() as u64),
     }
 }
@@ -101,9 +107,10 @@ fn explain() {
         "\
 Sizes, and the largest factor seen between count and estimate, with q 2: count / estimate or (estimate - 1) / count,
 over {ranges} ranges of all lengths, of which those are taken where one of the two is above 3, 12 or 100 times theta.
-The factor promised there is proved. A list has 4 bytes a frequency. The two rivals have the same bytes and no head:
-equi-depth {BYTES_OF_DEPTH} bytes a bucket (2 for a boundary, 4 for an exact count), equi-width {BYTES_OF_WIDTH}
-(an exact count; the boundaries follow). Both give of a cut bucket the share by length, and round up once.
+The factor promised there is proved; that of a rival is infinite where its estimate is above and the count is 0. A
+list has 4 bytes a frequency. The two rivals have the same bytes and no head: equi-depth {BYTES_OF_DEPTH} bytes a bucket
+(2 for a boundary, 4 for an exact count), equi-width {BYTES_OF_WIDTH} (an exact count; the boundaries follow).
+Both give of a cut bucket the share by length, and round up once.
 ",
         ranges = grouped(RANGES as u64)
     );

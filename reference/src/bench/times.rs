@@ -176,7 +176,8 @@ prints it. All sides answer alike, and are called and not inlined into the calle
 0 before each run, outside of the time; the other calls only read, and what they read stays in the cache. A run of a
 coding has {coded} calls, one of estimate or find has {ASKED} ranges or entries, repeated for a millisecond.
 \"flat\" has 65,536 frequencies of 10, \"random\" as many of 1 to 100, \"steep\" as many that fall as 60,000,000 /
-rank, and \"restless\" as many of 1 and 1,000 in turn, so that each bucketlet has one entry.
+rank, \"sparse\" as many of which 99 in 100 are 0 and the others 1 to 100, and \"restless\" as many of 1 and 1,000 in
+turn, so that each bucketlet has one entry.
 ",
         runs = PASSES * ROUNDS,
         coded = grouped(CODED as u64)

@@ -19,7 +19,7 @@ fn counts(random: &mut Random, number: u32) -> Vec<u32> {
     let codes = (0..25).flat_map(|shift| (64..128).map(move |bits| bits << shift));
     edges.extend(codes);
     edges.extend([COUNT_LIMIT, u32::MAX - 1, 1 << 31]);
-    let about = |edge: u32| [edge - 1, edge, edge + 1];
+    let about = |edge: u32| [edge.saturating_sub(1), edge, edge + 1];
     let mut counts: Vec<u32> = edges.into_iter().flat_map(about).collect();
     counts.extend(0..number);
     counts.extend((0..number).map(|_| random.word() as u32));
@@ -60,6 +60,8 @@ impl Comparison<'_> {
             // The sum wraps to 1 in 32 bits.
             self.refused(&[u32::MAX, 2], good, lent);
             self.refused(&[0, u32::MAX], bad, lent);
+            self.refused(&[0, 0], bad, lent);
+            self.refused(&[0; 9], good, lent);
             self.refused(&[3; 9], good, lent);
         }
         for (qn, qd) in Q_PARTS.iter().flat_map(|&qn| Q_PARTS.map(|qd| (qn, qd))) {
@@ -76,10 +78,10 @@ impl Comparison<'_> {
     /// Several faults at once: the first in order is answered.
     fn several_faults(&mut self, random: &mut Random) {
         let length = random.below(12);
-        let mut frequencies: Vec<u32> = (0..length).map(|_| random.any_size(500) as u32).collect();
+        let mut frequencies: Vec<u32> = (0..length).map(|_| random.any_size(500) as u32 - 1).collect();
         if length > 0 && random.chance(1, 2) {
             let place = random.place(&frequencies);
-            frequencies[place] = random.pick(&[0, COUNT_LIMIT, u32::MAX]);
+            frequencies[place] = random.pick(&[COUNT_LIMIT, COUNT_LIMIT + 1, u32::MAX]);
         }
         let theta = random.pick(&[0, 1, 7, MOST_THETA, MOST_THETA + 1]);
         let bound = Bound::new(theta, random.pick(&Q_PARTS), random.pick(&Q_PARTS));

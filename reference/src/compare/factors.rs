@@ -4,7 +4,7 @@ use super::calls::shown;
 use super::Group::DemandNear;
 use super::{Comparison, Group};
 use crate::demand::{promise, Pair, Used, KS, SIDES};
-use crate::estimate::exact;
+use crate::estimate::answered;
 use crate::list::Bound;
 use crate::words::read;
 
@@ -31,8 +31,7 @@ impl Comparison<'_> {
             sums.push(sums[sums.len() - 1] + u64::from(frequency));
         }
         for (x, y) in ranges {
-            let pair =
-                Pair { count: sums[y as usize] - sums[x as usize], estimate: exact(&histogram, x, y).rounded_up() };
+            let pair = Pair { count: sums[y as usize] - sums[x as usize], estimate: answered(&histogram, x, y) };
             let Pair { count, estimate } = pair;
             let text = || {
                 let list = shown(frequencies);

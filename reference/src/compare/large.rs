@@ -29,14 +29,14 @@ fn wide_list(random: &mut Random) -> Vec<u32> {
             2 => random.pick(&[3_577, 3_578, 4_606]),
             _ => random.between(1, 600),
         };
-        let level = random.any_size(20_000);
+        let level = if random.chance(1, 6) { 0 } else { random.any_size(20_000) };
         frequencies.extend((0..run).map(|_| (level + random.below(1 + level / 20)) as u32));
         if random.chance(1, 2) {
             frequencies.push(COUNT_LIMIT / 8);
         }
     }
     while count(&frequencies) > COUNT_LIMIT.into() {
-        frequencies.iter_mut().for_each(|f| *f = (*f / 2).max(1));
+        frequencies.iter_mut().for_each(|f| *f = f.div_ceil(2));
     }
     frequencies
 }
@@ -57,7 +57,7 @@ impl Comparison<'_> {
         for number in 0..self.volume.wide {
             let frequencies = wide_list(&mut random);
             let top = u64::from(*frequencies.iter().max().expect("not empty"));
-            let theta = random.any_size((4 * top).min(MOST_THETA.into())) as u32;
+            let theta = random.any_size((4 * top).clamp(1, MOST_THETA.into())) as u32;
             let (qn, qd) = random.pick(&[(5, 4), (3, 2), (2, 1), (999, 799)]);
             let bound = Bound::new(theta, qn, qd);
             self.large_list(&mut random, (BuildWide, LARGE), &frequencies, bound);
@@ -76,7 +76,13 @@ impl Comparison<'_> {
     }
 
     /// One list that is too long for all ranges.
-    fn large_list(&mut self, random: &mut Random, (build, asking): (Group, Asking), frequencies: &[u32], bound: Bound) {
+    pub(super) fn large_list(
+        &mut self,
+        random: &mut Random,
+        (build, asking): (Group, Asking),
+        frequencies: &[u32],
+        bound: Bound,
+    ) {
         self.counts.lists += 1;
         let lent = most_words(frequencies) + 3;
         let words = self.build(build, Way::FewerRanges, frequencies, bound, lent);
@@ -89,7 +95,7 @@ impl Comparison<'_> {
         let mut other = frequencies.to_vec();
         let place = random.place(&other);
         let f = other[place];
-        other[place] = random.pick(&[1, f * 2, f + bound.theta.min(1_000)]);
+        other[place] = random.pick(&[0, 1, f * 2, f + bound.theta.min(1_000)]);
         self.check(asking.check, &other, &words);
         for _ in 0..2 {
             let damaged = damaged(random, &words);
@@ -178,6 +184,10 @@ impl Comparison<'_> {
             let words = bucket_for_each(frequencies.len() as u32, bound, class, total);
             self.ask_large(&mut random, LARGE, &frequencies, &words, 30);
         }
+        // The smallest sum, of as many.
+        let frequencies = vec![0; self.volume.longest];
+        let words = bucket_for_each(frequencies.len() as u32, bound, 0, 0);
+        self.ask_large(&mut random, LARGE, &frequencies, &words, 30);
         // The most words that the builder makes, and one too few.
         let steep: Vec<u32> = (0..self.volume.longest).map(|place| [1, 30_000][place % 2]).collect();
         let most = most_words(&steep);

@@ -7,6 +7,7 @@ mod factors;
 mod large;
 mod sheets;
 mod small;
+mod zeros;
 
 use crate::demand::KS;
 use crate::generate::Random;
@@ -35,6 +36,7 @@ groups! {
     BuildWide: "build: widths about 511 and 4,095",
     BuildLarge: "build: large lists",
     BuildReal: "build: real lists",
+    BuildZeros: "build: lists with zeros",
     BuildRefused: "build: refusals and lent words",
     CheckBuilt: "check: built histograms",
     CheckForeign: "check: foreign histograms",
@@ -44,6 +46,7 @@ groups! {
     CheckLarge: "check: wide and large lists",
     CheckReal: "check: real lists",
     CheckDirected: "check: directed lists",
+    CheckZeros: "check: lists with zeros, and class 0",
     EstimateBuilt: "estimate: built histograms",
     EstimateForeign: "estimate: foreign histograms",
     EstimateDamaged: "estimate: damaged words",
@@ -51,6 +54,7 @@ groups! {
     EstimateLarge: "estimate: wide and large lists",
     EstimateReal: "estimate: real lists",
     EstimateDirected: "estimate: directed lists",
+    EstimateZeros: "estimate: lists with zeros, and class 0",
     FindSmall: "find: built and foreign histograms",
     FindDamaged: "find: damaged words",
     FindRandom: "find: random words",
@@ -64,6 +68,7 @@ groups! {
     DemandDirected: "demand 3: directed lists",
     DemandLarge: "demand 3: wide and large lists",
     DemandReal: "demand 3: real lists",
+    DemandZeros: "demand 3: lists with zeros",
     DemandNear: "demand 3: directed lists tell k - 2 from k - 1",
 }
 
@@ -81,6 +86,8 @@ struct Asking {
 pub struct Volume {
     pub codings: u32,
     pub small: usize,
+    /// The most entries of the lists that are all tried.
+    pub tiny: u32,
     pub wide: usize,
     pub longest: usize,
     pub directed: usize,
@@ -89,10 +96,11 @@ pub struct Volume {
 
 impl Volume {
     pub const FULL: Volume =
-        Volume { codings: 1_000_000, small: 20_000, wide: 80, longest: 65_536, directed: 300, sheets: 3_000 };
+        Volume { codings: 1_000_000, small: 20_000, tiny: 5, wide: 80, longest: 65_536, directed: 300, sheets: 3_000 };
 
     /// Enough to find the known faults in a test.
-    pub const QUICK: Volume = Volume { codings: 3_000, small: 150, wide: 0, longest: 600, directed: 10, sheets: 120 };
+    pub const QUICK: Volume =
+        Volume { codings: 3_000, small: 150, tiny: 3, wide: 0, longest: 600, directed: 10, sheets: 120 };
 }
 
 #[derive(Clone, Copy, Debug, Default)]
@@ -160,6 +168,7 @@ impl<'a> Comparison<'a> {
         self.part("large lists", Comparison::large_lists);
         self.part("extremes", Comparison::extremes);
         self.part("real lists", Comparison::real_lists);
+        self.part("lists with zeros", Comparison::lists_with_zeros);
         self.part("refusals of the builder", Comparison::build_refusals);
         self.part("every bit", Comparison::every_bit);
         self.part("random words", Comparison::random_words);

@@ -4,8 +4,9 @@ use super::Comparison;
 use super::Group::*;
 use crate::generate::bytes::{damaged, input, some_input};
 use crate::list::Bound;
+use crate::sheet::MOST_FREQUENCIES;
 
-const ODD: [&[u8]; 30] = [
+const ODD: [&[u8]; 32] = [
     b"",
     b"\n",
     b"1",
@@ -23,6 +24,8 @@ const ODD: [&[u8]; 30] = [
     b"00\n3\n2\n1\n",
     b"0\n0\n0\n0\n",
     b"0\n0\n0\n1\n",
+    b"1\n3\n2\n00\n",
+    b"1\n3\n2\n0\n\n",
     b"0\n0\n0\n4294967296\n",
     b"0\n0\n0\n4294967295\n",
     b"1\n0\n0\n1\n",
@@ -56,6 +59,10 @@ impl Comparison<'_> {
             self.sheet(SheetGood, &input(&steep, bound));
             let longest = Bound::new(u32::MAX, u32::MAX, u32::MAX);
             self.sheet(SheetDamaged, &input(&vec![u32::MAX; length], longest));
+        }
+        let zeros = vec![0; self.volume.longest.min(MOST_FREQUENCIES)];
+        for frequencies in [&zeros[..], &[0, 0, 0], &[0, 0, 5, 0, 100]] {
+            self.sheet(SheetGood, &input(frequencies, Bound::new(5, 3, 2)));
         }
         for odd in ODD {
             self.sheet(SheetDamaged, odd);

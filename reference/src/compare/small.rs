@@ -2,7 +2,7 @@
 
 use super::calls::most_words;
 use super::Group::*;
-use super::{Asking, Comparison};
+use super::{Asking, Comparison, Group};
 use crate::build::{histogram, Way, WAYS};
 use crate::generate::damage::{damaged, random_words};
 use crate::generate::foreign::{fitting, wild};
@@ -26,32 +26,40 @@ impl Comparison<'_> {
             self.counts.lists += 1;
             for turn in 0..6 {
                 let bound = bound(&mut random, &frequencies);
-                self.small_list(&mut random, &frequencies, bound, turn == 0);
+                self.small_list(&mut random, (BuildSmall, BUILT, FOREIGN), &frequencies, bound, turn == 0);
             }
         }
     }
 
-    fn small_list(&mut self, random: &mut Random, frequencies: &[u32], bound: Bound, every: bool) {
+    /// Compares a list's histogram and a foreign one, each in groups of its own.
+    pub(super) fn small_list(
+        &mut self,
+        random: &mut Random,
+        (build, built, foreign): (Group, Asking, Asking),
+        frequencies: &[u32],
+        bound: Bound,
+        every: bool,
+    ) {
         let lent = most_words(frequencies) + random.below(4) as usize;
-        let built = self.build(BuildSmall, Way::Rule, frequencies, bound, lent);
-        let built = built.expect("the list is good and the words are enough");
+        let words = self.build(build, Way::Rule, frequencies, bound, lent);
+        let words = words.expect("the list is good and the words are enough");
         self.counts.built += 1;
         self.ways_agree(&WAYS, frequencies, bound);
         if every {
-            let fewer = random.below(built.len() as u64) as usize;
-            for lent in [built.len() - 1, built.len(), fewer] {
+            let fewer = random.below(words.len() as u64) as usize;
+            for lent in [words.len() - 1, words.len(), fewer] {
                 self.build(BuildRefused, Way::FewerRanges, frequencies, bound, lent);
             }
         }
-        let foreign = match random.below(2) {
+        let other = match random.below(2) {
             0 => wild(random, frequencies, bound),
             _ => fitting(random, frequencies, bound),
         };
         self.counts.foreign += 1;
-        if !self.ask_small(random, BUILT, frequencies, &built, every) {
-            self.fail(CheckBuilt, &format!("built and not accepted: {frequencies:?} {bound}"));
+        if !self.ask_small(random, built, frequencies, &words, every) {
+            self.fail(built.check, &format!("built and not accepted: {frequencies:?} {bound}"));
         }
-        self.ask_small(random, FOREIGN, frequencies, &write(&foreign), every);
+        self.ask_small(random, foreign, frequencies, &write(&other), every);
     }
 
     /// Checks, estimates and finds, with all ranges and entries or with some; answers whether
@@ -93,7 +101,7 @@ impl Comparison<'_> {
         for _ in 0..random.between(1, 3) {
             let place = random.place(&other);
             let f = other[place];
-            other[place] = random.pick(&[f + 1, f.max(2) - 1, f + f / 2, f / 2 + 1, 1]);
+            other[place] = random.pick(&[f + 1, f.saturating_sub(1), f + f / 2, f / 2 + 1, 1, 0]);
         }
         self.check(CheckOther, &other, words);
         if random.chance(1, 4) {
@@ -147,7 +155,7 @@ impl Comparison<'_> {
             let words = random_words(&mut random);
             let d = words.first().map_or(0, |&d| u64::from(d.min(2_000)));
             let (x, y) = (random.below(d + 1) as u32, random.below(d + 2) as u32);
-            self.check(CheckRandom, &vec![1; d as usize], &words);
+            self.check(CheckRandom, &vec![random.below(2) as u32; d as usize], &words);
             self.estimate(EstimateRandom, &words, (x, y));
             self.find(FindRandom, &words, x);
         }
@@ -157,14 +165,13 @@ impl Comparison<'_> {
 /// Makes a list faulty, or of another length.
 fn spoil(random: &mut Random, frequencies: &mut Vec<u32>) {
     let place = random.place(frequencies);
-    match random.below(6) {
-        0 => frequencies.push(1),
+    match random.below(5) {
+        0 => frequencies.push(random.below(2) as u32),
         1 => {
             frequencies.pop();
         }
-        2 => frequencies[place] = 0,
-        3 => frequencies[place] = u32::MAX,
-        4 => frequencies.push(COUNT_LIMIT),
+        2 => frequencies[place] = u32::MAX,
+        3 => frequencies.push(COUNT_LIMIT),
         _ => frequencies.clear(),
     }
 }

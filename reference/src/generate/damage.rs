@@ -1,5 +1,6 @@
 //! Word lists with faults, most of them one field away from a good one, and random ones.
 
+use super::foreign::codes;
 use super::Random;
 use crate::words::{HEADS, KINDS, PER_BUCKET};
 
@@ -59,7 +60,7 @@ fn set(word: &mut u32, high: u32, low: u32, value: u32) {
 /// A fault in one field of a bucket.
 fn field_fault(random: &mut Random, bucket: &mut [u32]) {
     let step = random.pick(&[u32::MAX, 1, 2, 511, 512]);
-    match random.below(8) {
+    match random.below(9) {
         0 => {
             let start = (bucket[0] >> 10).wrapping_add(step);
             let other = random.pick(&[start, 0, 1, 70_000, 65_535]);
@@ -72,11 +73,14 @@ fn field_fault(random: &mut Random, bucket: &mut [u32]) {
         }
         3 => bucket[random.pick(&[3, 4])] ^= 1 << random.between(27, 29),
         4 | 5 => class_fault(random, bucket),
-        6 => {
-            let code = bucket[2] & 0xFFF;
-            let beside = random.pick(&[code + 1, code ^ 32, code ^ 1]);
-            let other = random.pick(&[beside, beside, 0, 31, 24, 2_048, 2_047, 4_087]);
-            set(&mut bucket[2], 11, 0, other);
+        6 => code_fault(random, bucket),
+        7 => {
+            // Eight classes 0, beside which code 0 is valid.
+            set(&mut bucket[1], 29, 0, 0);
+            set(&mut bucket[2], 29, 12, 0);
+            if random.chance(1, 2) {
+                code_fault(random, bucket);
+            }
         }
         _ => {
             let (place, low) = random.pick(&WIDTHS);
@@ -94,6 +98,13 @@ fn class_fault(random: &mut Random, bucket: &mut [u32]) {
     set(&mut bucket[place], low + 5, low, other);
 }
 
+fn code_fault(random: &mut Random, bucket: &mut [u32]) {
+    let code = bucket[2] & 0xFFF;
+    let beside = random.pick(&[code + 1, code ^ 32, code ^ 1]);
+    let other = random.pick(&[beside, beside, 0, 0, 31, 24, 2_048, 2_047, 4_087]);
+    set(&mut bucket[2], 11, 0, other);
+}
+
 /// Random words, most of them with a good head, the right length and the right kinds.
 pub fn random_words(random: &mut Random) -> Vec<u32> {
     if random.chance(1, 4) {
@@ -103,6 +114,7 @@ pub fn random_words(random: &mut Random) -> Vec<u32> {
     let buckets = random.between(1, 3) as u32;
     let d = random.between(buckets.into(), 60) as u32;
     let mut words = vec![d, random.any_size(300) as u32, 0xC02, buckets];
+    let zeros = random.chance(1, 4);
     for bucket in 0..buckets {
         let mut five = KINDS.map(|kind| (kind << 30) | random.below(1 << 30) as u32);
         if random.chance(7, 8) {
@@ -117,6 +129,12 @@ pub fn random_words(random: &mut Random) -> Vec<u32> {
                 let narrow = random.below(4) as u32;
                 set(&mut five[place], low + 8, low, narrow);
             }
+        }
+        if zeros {
+            // Eight classes 0, which may stand beside code 0 and beside others.
+            let other = random.pick(codes());
+            set(&mut five[1], 29, 0, 0);
+            set(&mut five[2], 29, 0, random.pick(&[0, other]));
         }
         words.extend(five);
     }

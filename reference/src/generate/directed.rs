@@ -35,13 +35,13 @@ struct Middle {
     code: u32,
 }
 
-/// A cut whose one entry inside holds nearly all of its count, which is theta. Its estimate
-/// is theta/q divided among w entries.
-fn spike_inside(bound: Bound, w: u64) -> Option<Cut> {
-    let ones = w as u32 - 1;
-    let spike = bound.theta.checked_sub(ones).filter(|&spike| spike > 0)?;
+/// A cut whose one entry inside holds nearly all of its count, which is theta, and all if the
+/// others are 0. Its estimate is theta/q divided among w entries.
+fn spike_inside(bound: Bound, w: u64, filler: u32) -> Option<Cut> {
+    let others = w as u32 - 1;
+    let spike = bound.theta.checked_sub(filler * others).filter(|&spike| spike > 0)?;
     Some(Cut {
-        frequencies: [vec![spike], vec![1; ones as usize]].concat(),
+        frequencies: [vec![spike], vec![filler; others as usize]].concat(),
         class: *classes_within(bound.theta.into(), bound).first()?,
         inside: 1,
     })
@@ -60,13 +60,13 @@ fn spike_inside_wider(bound: Bound, n: u64, class: u32) -> Option<Cut> {
     Some(Cut { frequencies: [vec![spike as u32], vec![1; w as usize - 1]].concat(), class, inside: 1 })
 }
 
-/// A cut of n ones inside, estimated at theta or little less; what makes the whole fit, by
-/// the least count that q allows, lies outside.
-fn spike_outside(bound: Bound, n: u64, class: u32) -> Option<Cut> {
+/// A cut of n ones or zeros inside, estimated at theta or little less; what makes the whole fit,
+/// by the least count that q allows, lies outside.
+fn spike_outside(bound: Bound, n: u64, class: u32, filler: u32) -> Option<Cut> {
     let least = u64::from(bound.qd) * u64::from(class_number(class));
     let least = least.div_ceil(bound.qn.into());
-    let spike = least.checked_sub(n).filter(|&spike| spike > 0)?;
-    Some(Cut { frequencies: [vec![1; n as usize], vec![spike as u32]].concat(), class, inside: n as usize })
+    let spike = least.checked_sub(n * u64::from(filler)).filter(|&spike| spike > 0)?;
+    Some(Cut { frequencies: [vec![filler; n as usize], vec![spike as u32]].concat(), class, inside: n as usize })
 }
 
 /// The entry whose class, or total if it has a bucket of its own, stands for the least number
@@ -91,7 +91,7 @@ fn middle_near(side: Side, aim: u64, apart: bool, bound: Bound) -> Option<Middle
 }
 
 /// A bucket of these widths and classes, at its first places or, if the eighth is free, its last.
-fn bucket(start: u32, bucketlets: &[(u32, u32)], eighth_free: bool, total: u32) -> Bucket {
+pub fn bucket(start: u32, bucketlets: &[(u32, u32)], eighth_free: bool, total: u32) -> Bucket {
     let mut bucket = Bucket::empty(start, eighth_free);
     let first = if eighth_free { 8 - bucketlets.len() } else { 0 };
     for (place, &(width, class)) in (first..).zip(bucketlets) {
@@ -159,16 +159,17 @@ fn aimed_at_count(random: &mut Random, k: u64, q: (u32, u32), apart: bool) -> Op
     let widest = if apart { 1_500 } else { 500 };
     let (w, other) = (random.any_size(widest), random.any_size(widest));
     let v = random.pick(&[w, other]);
-    let theta = (u64::from(middle.frequency) + 1).checked_sub(w + v)? / (k - 2);
+    let wider = random.chance(1, 2);
+    let filler = if wider { 1 } else { random.below(2) };
+    let theta = (u64::from(middle.frequency) - 1).checked_sub(filler * (w + v - 2))? / (k - 2);
     let bound = Bound::new(theta.try_into().ok()?, q.0, q.1);
     if !bound.theta_within_limits() {
         return None;
     }
     let class = random.pick(&classes_within(theta, bound));
-    let wider = random.chance(1, 2);
     let cut = |w: u64| match wider {
         true => spike_inside_wider(bound, w + 1, class),
-        false => spike_inside(bound, w),
+        false => spike_inside(bound, w, filler as u32),
     };
     assemble([&cut(w)?, &cut(v)?], &[middle], bound, apart)
 }
@@ -183,7 +184,7 @@ fn aimed_at_estimate(random: &mut Random, k: u64, q: (u32, u32), apart: bool) ->
     if !bound.theta_within_limits() {
         return None;
     }
-    let cut = spike_outside(bound, n, class)?;
+    let cut = spike_outside(bound, n, class, random.below(2) as u32)?;
     let aim = k * theta - 2 * (n * s) / (n + 1);
     let middle = middle_near(Side::Estimate, aim, apart, bound)?;
     assemble([&cut, &cut], &[middle], bound, apart)
@@ -209,7 +210,7 @@ pub fn known() -> Vec<Directed> {
     let assembled = |(bound, side, n, class, middles): Known| {
         let cut = match side {
             Side::Count => spike_inside_wider(bound, n, class)?,
-            Side::Estimate => spike_outside(bound, n, class)?,
+            Side::Estimate => spike_outside(bound, n, class, 1)?,
         };
         let middle = |&(frequency, number): &(u32, u64)| Middle {
             frequency,
@@ -230,7 +231,7 @@ pub fn jostled(random: &mut Random, directed: &Directed) -> Directed {
     let frequency = &mut changed.frequencies[place];
     let theta = &mut changed.histogram.head.bound.theta;
     match random.below(4) {
-        0 => *frequency = (*frequency - 1).max(1),
+        0 => *frequency = frequency.saturating_sub(1),
         1 => *frequency += 1,
         2 => *theta = (*theta - 1).max(1),
         _ => *theta = (*theta + 1).min(MOST_THETA),

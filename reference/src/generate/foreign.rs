@@ -1,8 +1,8 @@
 //! Histograms that the builder would not make: other boundaries, classes, totals and flags,
-//! and empty bucketlets anywhere.
+//! and empty bucketlets and class 0 anywhere.
 
 use super::Random;
-use crate::coding::{class_in_use, class_number, code_number, code_valid, LAST_CLASS};
+use crate::coding::{class_in_use, class_number, code_number, number_of_total, LAST_CLASS};
 use crate::fits::first_failing;
 use crate::list::{count, Bound};
 use crate::words::{Bucket, Histogram, WIDEST_FREE, WIDEST_LISTED};
@@ -11,7 +11,7 @@ use std::sync::OnceLock;
 
 /// A histogram that reads well and may or may not be accepted.
 pub fn wild(random: &mut Random, frequencies: &[u32], bound: Bound) -> Histogram {
-    let total = |random: &mut Random, f: u64| total_near(random, f, bound);
+    let total = |random: &mut Random, f: u64, classes: &[u32]| total_near(random, f, classes, bound);
     assemble(random, frequencies, bound, total, |random, rest, widest| {
         let width = random.any_size(rest.len().min(widest) as u64) as usize;
         (width, class_near(random, count(&rest[..width]), bound))
@@ -20,7 +20,7 @@ pub fn wild(random: &mut Random, frequencies: &[u32], bound: Bound) -> Histogram
 
 /// A histogram whose every bucketlet and total fits, so that it is accepted.
 pub fn fitting(random: &mut Random, frequencies: &[u32], bound: Bound) -> Histogram {
-    let total = |random: &mut Random, f: u64| end_or_any(random, &codes()[codes_within(f, bound)]);
+    let total = |random: &mut Random, f: u64, _: &[u32]| end_or_any(random, &codes()[codes_within(f, bound)]);
     assemble(random, frequencies, bound, total, |random, rest, widest| {
         let mut width = random.between(1, rest.len().min(widest) as u64) as usize;
         loop {
@@ -41,7 +41,7 @@ fn assemble(
     random: &mut Random,
     frequencies: &[u32],
     bound: Bound,
-    total: impl Fn(&mut Random, u64) -> u32,
+    total: impl Fn(&mut Random, u64, &[u32]) -> u32,
     bucketlet: impl Fn(&mut Random, &[u32], usize) -> (usize, u32),
 ) -> Histogram {
     let mut buckets = Vec::new();
@@ -63,7 +63,7 @@ fn assemble(
             (bucket.widths[place], bucket.classes[place]) = (width as u32, class);
             at += width;
         }
-        bucket.total = total(random, count(&frequencies[start..at]));
+        bucket.total = total(random, count(&frequencies[start..at]), &bucket.classes);
         buckets.push(bucket);
     }
     Histogram::new(bound, buckets)
@@ -71,14 +71,14 @@ fn assemble(
 
 /// The classes whose number lies within q of a count.
 pub fn classes_within(f: u64, bound: Bound) -> Vec<u32> {
-    (1..=LAST_CLASS).filter(|&class| class_in_use(class) && bound.within_q(f, class_number(class).into())).collect()
+    (0..=LAST_CLASS).filter(|&class| class_in_use(class) && bound.within_q(f, class_number(class).into())).collect()
 }
 
-/// The valid codes, those of small numbers first.
+/// The codes that stand for a number, those of small ones first; code 0 is the first of all.
 pub fn codes() -> &'static [u32] {
     static CODES: OnceLock<Vec<u32>> = OnceLock::new();
     CODES.get_or_init(|| {
-        let mut codes: Vec<u32> = (0..4_096).filter(|&code| code_valid(code)).collect();
+        let mut codes: Vec<u32> = (0..4_096).filter(|&code| number_of_total(code).is_ok()).collect();
         codes.sort_by_key(|&code| code_number(code));
         codes
     })
@@ -95,7 +95,8 @@ fn codes_within(f: u64, bound: Bound) -> Range<usize> {
 fn class_near(random: &mut Random, f: u64, bound: Bound) -> u32 {
     let within = classes_within(f, bound);
     if random.chance(1, 40) {
-        return random.between(3, u64::from(LAST_CLASS)) as u32;
+        let any = random.between(3, u64::from(LAST_CLASS)) as u32;
+        return random.pick(&[0, any]);
     }
     if random.chance(1, 20) {
         // Just outside, if there is a class there.
@@ -107,14 +108,17 @@ fn class_near(random: &mut Random, f: u64, bound: Bound) -> u32 {
     end_or_any(random, &within)
 }
 
-fn total_near(random: &mut Random, f: u64, bound: Bound) -> u32 {
+fn total_near(random: &mut Random, f: u64, classes: &[u32], bound: Bound) -> u32 {
     let within = codes_within(f, bound);
+    // Beside other classes than 0, code 0 would not be read.
+    let first = usize::from(classes.iter().any(|&class| class > 0));
+    let (start, end) = (within.start.max(first), within.end.max(first + 1));
     if random.chance(1, 20) {
         // Just outside, if there is a code there.
-        let beside = [within.start.saturating_sub(1), within.end.min(codes().len() - 1)];
+        let beside = [start.saturating_sub(1).max(first), end.min(codes().len() - 1)];
         return codes()[random.pick(&beside)];
     }
-    end_or_any(random, &codes()[within])
+    end_or_any(random, &codes()[start..end])
 }
 
 /// The ends of what is allowed are where faults hide.

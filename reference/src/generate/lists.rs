@@ -16,8 +16,31 @@ pub enum Kind {
 
 pub const KINDS: [Kind; 6] = [Kind::Flat, Kind::Random, Kind::Steep, Kind::Spikes, Kind::Plateaus, Kind::Edges];
 
-/// A list of a kind; its sum stays within the limit.
+/// A list of a kind, half of the time with zeros; its sum stays within the limit.
 pub fn list(random: &mut Random, kind: Kind, length: usize) -> Vec<u32> {
+    let mut frequencies = list_without_zeros(random, kind, length);
+    if random.chance(1, 2) {
+        withdraw(random, &mut frequencies);
+    }
+    frequencies
+}
+
+/// Sets a stretch of the list to 0, or a share of it that may be all.
+fn withdraw(random: &mut Random, frequencies: &mut [u32]) {
+    if random.chance(1, 3) {
+        let (from, to) = (random.place(frequencies), random.place(frequencies));
+        frequencies[from.min(to)..=from.max(to)].fill(0);
+        return;
+    }
+    let twelfths = random.pick(&[1, 4, 8, 11, 12]);
+    for frequency in frequencies {
+        if random.chance(twelfths, 12) {
+            *frequency = 0;
+        }
+    }
+}
+
+fn list_without_zeros(random: &mut Random, kind: Kind, length: usize) -> Vec<u32> {
     // Half of the lists have small frequencies, where classes are coarse.
     let cap = u64::from(COUNT_LIMIT) / length as u64;
     let cap = if random.chance(1, 2) { cap.min(300) } else { cap };
@@ -112,9 +135,9 @@ fn q(random: &mut Random, frequencies: &[u32]) -> (u32, u32) {
         _ => {
             let (f, n, s, w) = some_range(random, frequencies);
             let (a, b) = ((f * w).max(n * s), (f * w).min(n * s));
-            let common = divisor(a, b);
+            let common = divisor(a, b).max(1);
             let (qn, qd) = (a / common, b / common);
-            if qn <= u64::from(MOST_Q_PART) && 4 * qn >= 5 * qd {
+            if qd > 0 && qn <= u64::from(MOST_Q_PART) && 4 * qn >= 5 * qd {
                 (qn as u32, qd as u32)
             } else {
                 any_q(random)

@@ -36,7 +36,7 @@ pub record Classed (fs : List ℕ) (q : Quality) (a w class : ℕ) : Type 0 wher
   pub sound : Sound fs q
   pub inside : a + w ≤ length fs
   pub narrow : w ≤ maxWidth
-  pub used : 0 < w → usedClass class ≡ true
+  pub used : usedClass class ≡ true
 
 -- a bucket's span inside the list, and its total
 pub record Totalled (fs : List ℕ) (q : Quality) (start end code : ℕ) : Type 0 where

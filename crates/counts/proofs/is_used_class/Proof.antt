@@ -1,4 +1,4 @@
--- `counts::is_used_class` meets its contract. The three tests are those of the classes in use.
+-- `counts::is_used_class` meets its contract. The two tests are those of the classes in use.
 -- Assumes nothing.
 use mathlib.Core.Path.{sym}
 use native.Mathlib.Omega.{arith}
@@ -10,17 +10,14 @@ use Rattle.counts.proofs.is_used_class.Statement.{statement}
 use Rattle.counts.proofs.is_used_class.Tie as tie
 
 returns : tie.Need-returns
-returns c = sym (not-used (c .before .args .class) (λ h l n. omega arith))
+returns c = sym (not-used (c .before .args .class) (λ l n. n (omega arith)))
 
 returns-2 : tie.Need-returns-2
-returns-2 c = sym (not-used (c .before .before .args .class) (λ h l n. n (omega arith)))
-
-returns-3 : tie.Need-returns-3
-returns-3 c =
-    let k = c .before .before .args .class in
+returns-2 c =
+    let k = c .before .args .class in
     agree _ _
-    (λ t. says-used k (omega arith) (omega (arith, ltb-true, leb-true)) (λ e. omega arith))
-    (λ f. not-used k (λ h l n. omega (arith, ltb-false, leb-false)))
+    (λ t. says-used k (omega (arith, ltb-true, leb-true)) (λ e. omega arith))
+    (λ f. not-used k (λ l n. omega (arith, ltb-false, leb-false)))
 
 pub is-used-class-spec : {M : Type 1} → statement M
-is-used-class-spec = tie.close (tie.spec returns returns-2 returns-3)
+is-used-class-spec = tie.close (tie.spec returns returns-2)

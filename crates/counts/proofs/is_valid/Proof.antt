@@ -21,8 +21,8 @@ returns-3 c =
     let l = least-is (a .shift) (c .least-bits .result) (c .least-bits .ensures) in
     valid-by _ _ _
     (λ t. let h = leb-true (c .least-bits .result) (a .bits) t in
-    record { some = omega (arith, h, l .0); bits-top = omega arith; shift-top = omega arith; bits-low = λ s. omega (arith, h, l .2 s) })
-    (λ v. le-leb (c .least-bits .result) (a .bits) (⊎-elim (λ z. omega (arith, l .3 z, v .some)) (λ s. omega (arith, l .1, v .bits-low s)) (eq-zero-or-pos (a .shift))))
+    record { bits-top = omega arith; shift-top = omega arith; bits-low = λ s. omega (arith, h, l .1 s) })
+    (λ v. le-leb (c .least-bits .result) (a .bits) (⊎-elim (λ z. omega (arith, l .2 z)) (λ s. omega (arith, l .0, v .bits-low s)) (eq-zero-or-pos (a .shift))))
 
 pub is-valid-spec : {M : Type 1} → statement M
 is-valid-spec = tie.close (tie.spec returns returns-2 (λ c κs. search needs) returns-3)

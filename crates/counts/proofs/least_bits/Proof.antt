@@ -5,10 +5,10 @@ use Rattle.counts.proofs.least_bits.Statement.{statement}
 use Rattle.counts.proofs.least_bits.Tie as tie
 
 returns : tie.Need-returns
-returns c = by-eq (c .before .args .shift) 0 _ 1 64 (λ e. omega arith) (λ e. omega arith)
+returns c = by-eq (c .before .args .shift) 0 _ 0 64 (λ e. omega arith) (λ e. omega arith)
 
 returns-2 : tie.Need-returns-2
-returns-2 c = by-eq (c .before .args .shift) 0 _ 1 64 (λ e. omega arith) (λ e. omega arith)
+returns-2 c = by-eq (c .before .args .shift) 0 _ 0 64 (λ e. omega arith) (λ e. omega arith)
 
 pub least-bits-spec : {M : Type 1} → statement M
 least-bits-spec = tie.close (tie.spec returns returns-2)

@@ -13,7 +13,7 @@ classStarts =
     20248917 ∷ 28348483 ∷ 39687876 ∷ 55563027 ∷ 77788237 ∷ 108903532 ∷ 152464944 ∷ 213450922 ∷ 298831290 ∷ 418363806 ∷
     585709329 ∷ 819993060 ∷ 1147990283 ∷ []
 
--- the numbers of classes 1 to 62, after a 0; that of class 2, which no count has, is 0
+-- the numbers of classes 0 to 62; that of class 2, which no count has, is 0
 unfoldable pub classNumbers : List ℕ
 classNumbers =
     0 ∷ 1 ∷ 0 ∷ 2 ∷ 3 ∷ 4 ∷ 6 ∷ 8 ∷ 12 ∷ 17 ∷ 24 ∷ 34 ∷ 47 ∷ 67 ∷ 93 ∷ 131 ∷ 184 ∷ 257 ∷ 360 ∷ 505 ∷ 707 ∷ 989 ∷ 1385 ∷ 1940 ∷

@@ -1,4 +1,4 @@
--- `estimator::estimate` meets its contract: the refusal, 0 for the empty range, or the sum rounded up once.
+-- `estimator::estimate` meets its contract: the refusal, 0 for the empty range, or the estimate of any other.
 -- Assumes nothing.
 use mathlib.Core.Path.{_≡_, sym, ap, _∙_}
 use Prim.Native.Nat.{ℕ}
@@ -6,7 +6,6 @@ use native.Mathlib.Omega.{arith}
 use borrow.Author.Needs.{needs}
 use Rattle.laws.specs.Reply.{answered, refused}
 use Rattle.laws.proofs.ReplyLaws.{answered-case, refused-case}
-use Rattle.estimate_rules.specs.Fraction.{rounded}
 use Rattle.estimate_rules.specs.Asking.{askFault, estimate}
 use Rattle.estimate_rules.proofs.AskingLaws.{asked-readable, reply-refused, reply-answered}
 use Rattle.estimate_rules.proofs.Proved.{none}
@@ -34,23 +33,18 @@ returns-2 c =
     ∙ ap (λ (y : ℕ). answered (estimate (a .words .now) (a .x) y)) (sym same)
     ∙ ap answered (none (a .words .now) (asked-readable (a .words .now) (a .x) (a .y) f) (a .x))))
 
-exact-of-requires : tie.Need-exact-of-requires
-exact-of-requires c κs =
+estimate-of-requires : tie.Need-estimate-of-requires
+estimate-of-requires c κs =
     let a = c .before .before .before .before .args in
-    asked-readable (a .words .now) (a .x) (a .y) (asked (c .before))
-
-rounded-of-requires : tie.Need-rounded-of-requires
-rounded-of-requires c κs = search needs
+    (asked-readable (a .words .now) (a .x) (a .y) (asked (c .before)), λ e. omega arith)
 
 returns-3 : tie.Need-returns-3
-unfolding estimate
 returns-3 c =
-    let a = c .before .before .before .before .before .before .args in
+    let a = c .before .before .before .before .before .args in
     answered-case Estimate Refused _ _
-    (ap answered (c .rounded-of .ensures ∙ ap rounded (c .before .exact-of .ensures .0))
-    ∙ sym (reply-answered (a .words .now) (a .x) (a .y) (asked (c .before .before .before))))
+    (ap answered (c .estimate-of .ensures) ∙ sym (reply-answered (a .words .now) (a .x) (a .y) (asked (c .before .before))))
 
 pub estimate-spec : {M : Type 1} → statement M
 estimate-spec =
     tie.close
-    (tie.spec (λ c κs. search needs) returns returns-2 exact-of-requires rounded-of-requires returns-3)
+    (tie.spec (λ c κs. search needs) returns returns-2 estimate-of-requires returns-3)

@@ -2,7 +2,6 @@
 -- Assumes nothing.
 use mathlib.Core.Path.{_≡_}
 use mathlib.Core.Bool.{true}
-use mathlib.Core.Logic.{_⊎_}
 use Prim.Native.Nat.{ℕ, _+_, _*_, _^_, _≤_, _<_}
 use Rattle.counts_rules.specs.Form.{base, usedClass}
 use Rattle.counts_rules.specs.Class.{classNumber}
@@ -18,13 +17,8 @@ pub record Small (e : Fraction) : Type 0 where
   pub bottom-small : e .bottom ≤ maxWidth ^ 2
   pub top-small : e .top ≤ 2 ^ 32 * e .bottom
 
--- a class that a readable list may hold
-abbrev pub ClassIn : ℕ → Type 0
-ClassIn c = (c ≡ 0) ⊎ (usedClass c ≡ true)
-
 -- a bucketlet that may be added to a sum
 pub record Addable (sum : Fraction) (x y a w class : ℕ) : Type 0 where
-  pub class-in : ClassIn class
+  pub class-used : usedClass class ≡ true
   pub within : a + w ≤ 65536
-  pub number-small : classNumber base class ≤ 2 ^ 31
   pub small : Small (plus sum (piece x y a w (classNumber base class)))

@@ -40,29 +40,18 @@ returns c = sym (refused _ _ (wrong-length (c .before .before .args .freqs .now)
 returns-2 : tie.Need-returns-2
 returns-2 c = sym (refused _ _ (wrong-length (c .before .before .before .args .freqs .now) (λ h l. omega arith)))
 
-returns-3 : tie.Need-returns-3
-returns-3 c =
-    let fs = c .before .before .before .before .before .args .freqs .now in
-    sym (passed _ _ (right-length fs (omega arith) (omega arith)) ∙ refused _ _ (sym (c .before .has-zero .ensures) ∙ c .if3 .taken))
-
 sum-of-requires : tie.Need-sum-of-requires
 sum-of-requires c κs = search needs
 
--- sentences 1 and 2 are false
-two-passed : (c : tie.Else3) → let fs = c .before .before .before .before .before .args .freqs .now in listFault fs ≡ refusal (drop 2 (listSentences fs))
-two-passed c =
-    let fs = c .before .before .before .before .before .args .freqs .now in
-    passed _ _ (right-length fs (omega arith) (omega arith)) ∙ passed _ _ (sym (c .before .has-zero .ensures) ∙ c .if3 .left)
+-- sentence 1 is false
+one-passed : (c : tie.Else2) → let fs = c .before .before .before .args .freqs .now in listFault fs ≡ refusal (drop 1 (listSentences fs))
+one-passed c = passed _ _ (right-length (c .before .before .before .args .freqs .now) (omega arith) (omega arith))
+
+returns-3 : tie.Need-returns-3
+returns-3 c = sym (one-passed (c .before .before) ∙ refused _ _ (large-sum _ _ (c .before .sum-of .ensures) (omega arith)))
 
 returns-4 : tie.Need-returns-4
-returns-4 c =
-    let two = two-passed (c .before .before) in
-    sym (two ∙ refused _ _ (large-sum _ _ (c .before .sum-of .ensures) (omega arith)))
-
-returns-5 : tie.Need-returns-5
-returns-5 c =
-    let two = two-passed (c .before .before) in
-    sym (two ∙ passed _ _ (small-sum _ _ (c .before .sum-of .ensures) (omega arith)) ∙ none-left)
+returns-4 c = sym (one-passed (c .before .before) ∙ passed _ _ (small-sum _ _ (c .before .sum-of .ensures) (omega arith)) ∙ none-left)
 
 pub list-fault-spec : {M : Type 1} → statement M
-list-fault-spec = tie.close (tie.spec returns returns-2 (λ c κs. search needs) returns-3 sum-of-requires returns-4 returns-5)
+list-fault-spec = tie.close (tie.spec returns returns-2 sum-of-requires returns-3 returns-4)

@@ -1,8 +1,8 @@
--- What sentences 1 to 5 ask of a list, of theta and of q, as statements.
+-- What sentences 1 and 3 to 5 ask of a list, of theta and of q, as statements.
 -- Assumes nothing.
 use mathlib.Core.List.{List}
-use Prim.Native.Nat.{ℕ, _*_, _≤_, _<_}
-use lib.ListN.{length, getD}
+use Prim.Native.Nat.{ℕ, _*_, _≤_}
+use lib.ListN.{length}
 use Rattle.laws.specs.Sums.{sum}
 use Rattle.counts_rules.specs.Limit.{limit}
 use Rattle.counts_rules.specs.Form.{form}
@@ -12,7 +12,6 @@ use Rattle.list_rules.specs.declared.Quality.{Quality}
 pub record Sound (fs : List ℕ) (q : Quality) : Type 0 where
   pub some : 1 ≤ length fs
   pub many : length fs ≤ maxEntries
-  pub positive : (i : ℕ) → i < length fs → 0 < getD fs i 0
   pub total : sum fs ≤ limit
   pub theta-some : 1 ≤ q .theta
   pub theta-small : q .theta ≤ maxTheta

@@ -4,10 +4,10 @@ use mathlib.Core.Path.{_≡_}
 use mathlib.Core.Bool.{true}
 use mathlib.Core.List.{List}
 use Prim.Native.Nat.{ℕ, _^_, _≤_, _<_}
-use Rattle.counts_rules.specs.Form.{form, usedClass}
+use Rattle.counts_rules.specs.Form.{usedClass}
 use Rattle.words_rules.specs.declared.Bucket.{Bucket}
 use Rattle.words_rules.specs.Words.{entries, buckets}
-use Rattle.words_rules.specs.Decoded.{classAt, bucketletStart, widthAt}
+use Rattle.words_rules.specs.Decoded.{classAt, bucketletStart}
 use Rattle.words_rules.specs.Reading.{Readable}
 use Rattle.sheet_rules.specs.Limits.{maxFrequencies, maxSheetBuckets}
 
@@ -20,5 +20,4 @@ pub record Roomy (ws : List ℕ) : Type 0 where
 -- a bucket whose lines are short
 pub record Printable (r : Bucket) : Type 0 where
   pub small : (k : ℕ) → k ≤ 8 → bucketletStart r k < 10 ^ 4
-  pub class-bits : (k : ℕ) → k < 8 → classAt r k < 2 ^ form .classBits
-  pub class-used : (k : ℕ) → k < 8 → 0 < widthAt r k → usedClass (classAt r k) ≡ true
+  pub class-used : (k : ℕ) → k < 8 → usedClass (classAt r k) ≡ true

@@ -3,15 +3,14 @@
 -- Assumes nothing.
 use borrow.Author.Needs.{needs}
 use mathlib.Core.Path.{sym, ap, _∙_}
-use mathlib.Core.Bool.{Bool, not, _||_}
+use mathlib.Core.Bool.{Bool, _||_}
 use Prim.Native.Nat.{ℕ, _-_}
 use native.Mathlib.Omega.{arith}
 use lib.ListN.{getD}
 use Rattle.laws.specs.Each.{some}
 use Rattle.laws.proofs.EachLaws.{some-at, NoneBefore, none-yet, none-more, none-found}
 use Rattle.laws.proofs.Tests.{holds-left}
-use Rattle.counts_rules.specs.Total.{validCode}
-use Rattle.words_rules.specs.Reading.{classBroken, codesBroken}
+use Rattle.words_rules.specs.Reading.{classBroken, totalBroken, codesBroken}
 use Rattle.words_rules.specs.declared.Bucket.{Bucket}
 use Rattle.words_rules.specs.Decoded.{widthAt}
 use Rattle.words_faults.proofs.codes_broken.Statement.{statement}
@@ -56,7 +55,7 @@ returns-2 : tie.Need-returns-2 Inv-loop μ-loop
 unfolding codesBroken
 returns-2 c =
     let r = c .before .before .before .args .t1 in
-    ap not (c .is-total-code .ensures) ∙ ap (λ (t : Bool). t || not (validCode (r .total))) (none-found _ _ _ (omega arith) (c .before .before .loop .inv))
+    c .total-broken .ensures ∙ ap (λ (t : Bool). t || totalBroken r) (none-found _ _ _ (omega arith) (c .before .before .loop .inv))
 
 pub codes-broken-spec : {M : Type 1} → statement M
 codes-broken-spec =

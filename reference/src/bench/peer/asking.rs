@@ -1,4 +1,4 @@
-//! The estimator: one pass over the words in 64 bits, rounded up once.
+//! The estimator: one pass over the words in 64 bits, rounded up once, and at least 1.
 
 use super::coding::{class_number, code_number};
 use super::reading::{decode, read, with_ends};
@@ -35,6 +35,9 @@ pub fn estimate(words: &[u32], x: u32, y: u32) -> Result<u64, u32> {
     if x > y || y > head.d {
         return Err(14);
     }
+    if x == y {
+        return Ok(0);
+    }
     let mut sum = Sum { whole: 0, top: 0, bottom: 1 };
     for (five, end) in with_ends(fives, head.d) {
         let bucket = decode(five, end);
@@ -47,5 +50,6 @@ pub fn estimate(words: &[u32], x: u32, y: u32) -> Result<u64, u32> {
             add_bucketlets(&mut sum, &bucket, x, y);
         }
     }
-    Ok(sum.whole + sum.top.div_ceil(sum.bottom))
+    let rounded = sum.whole + sum.top.div_ceil(sum.bottom);
+    Ok(rounded.max(1))
 }

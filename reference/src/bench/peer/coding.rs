@@ -22,9 +22,12 @@ static NUMBER: [u32; 64] = [
 /// The whole part of (√2 - 1) · 2^32.
 const SQRT_2_LESS_1: u32 = 1779033703;
 
-/// The class of a count from 1 to the limit: at most three above where its highest bit points.
+/// The class of a count up to the limit: at most three above where its highest bit points.
 #[inline]
 pub fn class_for(count: u32) -> u32 {
+    if count == 0 {
+        return 0;
+    }
     let least = 2 * (31 - count.leading_zeros()) + 1;
     let reached = |class: u32| (FIRST[(class & 63) as usize] <= count) as u32;
     least + reached(least + 1) + reached(least + 2) + reached(least + 3)
@@ -35,17 +38,18 @@ pub fn class_number(class: u32) -> u32 {
     NUMBER[(class & 63) as usize]
 }
 
-/// The code of a total from 1 to the limit.
+/// The code of a total up to the limit.
 #[inline]
 pub fn code_for(total: u32) -> u32 {
     let shift = if total < 128 { 0 } else { 25 - total.leading_zeros() };
     (total >> shift) << 5 | shift
 }
 
+/// Whether a code is valid; 0 is, and in a bucket only beside eight classes 0.
 #[inline]
 pub fn code_valid(code: u32) -> bool {
     let (bits, shift) = (code >> 5, code & 31);
-    bits <= 127 && shift <= 23 && bits >= if shift == 0 { 1 } else { 64 }
+    bits <= 127 && shift <= 23 && (shift == 0 || bits >= 64)
 }
 
 /// What a valid code stands for.
@@ -67,7 +71,7 @@ const fn refused(refusal: u32) -> QhCoded {
 
 #[inline(never)]
 pub extern "C" fn class_of(count: u32) -> QhCoded {
-    if count == 0 || count > COUNT_LIMIT {
+    if count > COUNT_LIMIT {
         return refused(16);
     }
     answer(class_for(count))
@@ -75,7 +79,7 @@ pub extern "C" fn class_of(count: u32) -> QhCoded {
 
 #[inline(never)]
 pub extern "C" fn number_of_class(class: u32) -> QhCoded {
-    if class == 0 || class == 2 || class >= 63 {
+    if class == 2 || class >= 63 {
         return refused(17);
     }
     answer(class_number(class))
@@ -83,7 +87,7 @@ pub extern "C" fn number_of_class(class: u32) -> QhCoded {
 
 #[inline(never)]
 pub extern "C" fn code_of_total(total: u32) -> QhCoded {
-    if total == 0 || total > COUNT_LIMIT {
+    if total > COUNT_LIMIT {
         return refused(16);
     }
     answer(code_for(total))

@@ -92,8 +92,9 @@ fn widths_broken(five: &Five, end: u32) -> bool {
 fn codes_broken(five: &Five, end: u32) -> bool {
     let bucket = decode(five, end);
     let mut pairs = bucket.classes.iter().zip(&bucket.widths);
-    let broken = |(&class, &width): (&u32, &u32)| class == 2 || class == 63 || (class == 0) != (width == 0);
-    pairs.any(broken) || !code_valid(bucket.total)
+    let broken = |(&class, &width): (&u32, &u32)| class == 2 || class == 63 || (width == 0 && class != 0);
+    let some_class = || bucket.classes.iter().any(|&class| class != 0);
+    pairs.any(broken) || if bucket.total == 0 { some_class() } else { !code_valid(bucket.total) }
 }
 
 /// The head and the buckets' words, or the first of the refusals 7 to 12.

@@ -8,8 +8,8 @@ use borrow.Author.Needs.{needs}
 use Rattle.laws.specs.Sums.{sum, prefixSum}
 use lib.ListN.{getD}
 use Rattle.build_rules.specs.Bucket.{bucketWidths}
-use Rattle.build_rules.proofs.WidthLaws.{count-some, count-small}
-use Rattle.build_rules.proofs.BucketLaws.{place-next, place-within, limit-bounds, sum-some, sum-within}
+use Rattle.build_rules.proofs.WidthLaws.{count-small}
+use Rattle.build_rules.proofs.BucketLaws.{place-next, place-within, limit-bounds}
 use Rattle.builder.proofs.LayLaws.{Laid, widthOf, laid-none, laid-more, laid-all, width-step, total-step, total-all}
 use Rattle.builder.proofs.bucket.bucket_from.Statement.{statement}
 use Rattle.builder.proofs.bucket.bucket_from.Tie as tie
@@ -69,14 +69,10 @@ array-write-widths : tie.Need-array-write-widths Inv-loop μ-loop
 array-write-widths c = omega arith
 
 class-for-requires : tie.Need-class-for-requires Inv-loop μ-loop
-class-for-requires c κs = λ h.
+class-for-requires c κs =
     let s = c .before .before .before .before .before .before in
     let l = c .before .before .before .before .loop in
-    let p = s .pre .0 in
-    let w = c .before .width-within .result in (
-      omega (arith, c .count-of .ensures, count-some (s .args .q) (s .args .freqs .now) (p .sound) (l .at) w h (omega (arith, inside (c .before), p .inside))),
-      omega (arith, c .count-of .ensures, count-small (s .args .q) (s .args .freqs .now) (p .sound) (l .at) w),
-    )
+    omega (arith, c .count-of .ensures, count-small (s .args .q) (s .args .freqs .now) (s .pre .0 .sound) (l .at) (c .before .width-within .result))
 
 mul-classes : tie.Need-mul-classes Inv-loop μ-loop
 mul-classes c = search needs
@@ -128,13 +124,9 @@ code-for-requires c κs =
     let s = c .before .before .before .before in
     let a = s .args in
     let l = c .before .before .loop in
-    let p = s .pre .0 in
     let n = sum (bucketWidths (a .q) (a .freqs .now) (a .end) (a .a)) in
     let t = total-all (a .q) (a .freqs .now) (a .end) (a .a) (l .widths) (l .classes) (l .total) (l .at) (all (c .before)) in
-    let w = sum-within (a .q) (a .freqs .now) (a .end) (a .a) (p .before) in (
-      omega (arith, t, count-some (a .q) (a .freqs .now) (p .sound) (a .a) n (sum-some (a .q) (a .freqs .now) (a .end) (a .a) (p .sound) (p .inside) (s .pre .1)) (omega (arith, p .inside))),
-      omega (arith, t, count-small (a .q) (a .freqs .now) (p .sound) (a .a) n),
-    )
+    omega (arith, t, count-small (a .q) (a .freqs .now) (s .pre .0 .sound) (a .a) n)
 
 returns : tie.Need-returns Inv-loop μ-loop
 returns c =

@@ -16,14 +16,14 @@ cast-class-of c = search needs
 
 -- the answers of the two calls
 coded : (c : tie.After-class-of) → Holds-code (c .class-of .result) (classOf base (c .before .args .count))
-coded c = class-code _ _ (omega arith) (omega arith) (c .class-of .ensures .0)
+coded c = class-code _ _ (omega arith) (c .class-of .ensures .0)
 
 meant : (c : tie.After-number-of-class) → Holds-number (c .number-of-class .result) (classValue (c .before .before .before .before .before .args .count))
 meant c =
     let v = c .before .before .before .before .before .args .count in
     let told = c .before .before .class .given in
     let class : told .0 .0 ≡ classOf base v = coded (c .before .before .before .before) .held _ (told .1) in
-    subst (λ (k : ℕ). Holds-number (c .number-of-class .result) (classNumber base k)) class (class-number _ _ (ap usedClass class ∙ class-used v (omega arith) (omega arith)) (c .number-of-class .ensures .0))
+    subst (λ (k : ℕ). Holds-number (c .number-of-class .result) (classNumber base k)) class (class-number _ _ (ap usedClass class ∙ class-used v (omega arith)) (c .number-of-class .ensures .0))
 
 returns : tie.Need-returns
 returns c = absurd (coded (c .before .before) .not-refused (c .enum-told .given .1))

@@ -15,7 +15,7 @@ use Rattle.counts_rules.specs.Limit.{limit}
 use Rattle.counts_rules.specs.Class.{classValue}
 use Rattle.list_rules.specs.declared.Quality.{Quality}
 use Rattle.build_rules.specs.Width.{fitsAt}
-use Rattle.build_rules.proofs.WidthLaws.{value-small, count-some, count-small}
+use Rattle.build_rules.proofs.WidthLaws.{value-small, count-small}
 use Rattle.build_bounds.specs.declared.Bounds.{Bounds}
 use Rattle.build_bounds.specs.Private.Growing.{Bounding, passes}
 use Rattle.build_bounds.proofs.BoundLaws.{bounding-none}
@@ -81,16 +81,13 @@ add-next : tie.Need-add-next Inv-loop μ-loop
 add-next c = search needs
 
 -- it is one that has a class
-some : (c : tie.After-wide Inv-loop μ-loop) → let t = c .before .before .before .loop .total + c .wide .result in (1 ≤ t) × (t ≤ limit)
-some c =
+small : (c : tie.After-wide Inv-loop μ-loop) → c .before .before .before .loop .total + c .wide .result ≤ limit
+small c =
     let s = c .before .before .before .before .before in
-    let w = suc (c .before .before .before .loop .w) in (
-      omega (arith, total c, count-some (s .args .q) (s .args .freqs .now) (s .pre .sound) (s .args .a) w (omega arith) (omega (arith, s .pre .inside))),
-      omega (arith, total c, count-small (s .args .q) (s .args .freqs .now) (s .pre .sound) (s .args .a) w),
-    )
+    omega (arith, total c, count-small (s .args .q) (s .args .freqs .now) (s .pre .sound) (s .args .a) (suc (c .before .before .before .loop .w)))
 
 class-value-requires : tie.Need-class-value-requires Inv-loop μ-loop
-class-value-requires c κs = some (c .before)
+class-value-requires c κs = small (c .before)
 
 passes-requires : tie.Need-passes-requires Inv-loop μ-loop
 passes-requires c κs =
@@ -101,7 +98,7 @@ passes-requires c κs =
       low-bottom = b .low-bottom;
       up-top = b .up-top;
       up-bottom = b .up-bottom;
-      number = omega (arith, c .class-value .ensures, value-small _ (some (c .before .before) .0) (some (c .before .before) .1));
+      number = omega (arith, c .class-value .ensures, value-small _ (small (c .before .before)));
       narrow = omega (arith, s .pre .narrow);
       qn-small = s .pre .sound .qn-small;
       qd-small = s .pre .sound .qd-small;
@@ -114,7 +111,7 @@ tested c =
     let s = c .before .before .before .before .before .before .before .before in
     let w = c .before .before .before .before .before .before .loop .w in
     let e = c .before .class-value .ensures ∙ ap classValue (total (c .before .before .before)) in
-    let p = test-fits (s .args .q) (s .args .freqs .now) (s .args .a) (s .pre .sound) (suc w) (c .before .class-value .result) (c .before .before .widened .result) (omega arith) (omega (arith, s .pre .inside)) e (c .before .before .widened .ensures) in
+    let p = test-fits (s .args .q) (s .args .freqs .now) (s .args .a) (s .pre .sound) (suc w) (c .before .class-value .result) (c .before .before .widened .result) e (c .before .before .widened .ensures) in
     c .passes .ensures ∙ ap (passes (s .args .q) (c .before .before .widened .result) (c .before .class-value .result)) (add-one w) ∙ p
 
 loop-less : tie.Need-loop-less Inv-loop μ-loop

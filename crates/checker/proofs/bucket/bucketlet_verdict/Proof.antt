@@ -5,7 +5,7 @@ use native.Mathlib.Omega.{arith}
 use borrow.Author.Needs.{needs}
 use Rattle.counts_rules.specs.Form.{base}
 use Rattle.counts_rules.specs.Class.{classNumber}
-use Rattle.counts_rules.proofs.BaseLaws.{close}
+use Rattle.counts_rules.proofs.BaseLaws.{number-small}
 use Rattle.counts.proofs.CallLaws.{Holds-number, class-number}
 use Rattle.check_rules.specs.Failing.{bucketletVerdict}
 use Rattle.check_rules.proofs.RangeLaws.{empty-verdict}
@@ -19,7 +19,7 @@ returns c =
 
 -- the answer of the call
 answer : (c : tie.After-number-of-class) → Holds-number (c .number-of-class .result) (classNumber base (c .before .before .before .args .class))
-answer c = class-number _ _ (c .before .before .before .pre .used (omega arith)) (c .number-of-class .ensures .0)
+answer c = class-number _ _ (c .before .before .before .pre .used) (c .number-of-class .ensures .0)
 
 returns-2 : tie.Need-returns-2
 returns-2 c = absurd (answer (c .before .before) .not-refused (c .enum-told .given .1))
@@ -38,7 +38,7 @@ first-failing-requires c κs =
       sound = s .pre .sound;
       inside = s .pre .inside;
       narrow = s .pre .narrow;
-      number-small = omega (arith, number c, close (s .args .class) (s .pre .used (omega arith)) .small);
+      number-small = omega (arith, number c, number-small (s .args .class) (s .pre .used));
     }
 
 returns-3 : tie.Need-returns-3

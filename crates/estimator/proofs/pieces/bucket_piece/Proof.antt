@@ -8,7 +8,7 @@ use native.Mathlib.Omega.{arith}
 use borrow.Author.Needs.{needs}
 use Rattle.words_rules.specs.Words.{start, end}
 use Rattle.estimate_rules.specs.Exact.{inside}
-use Rattle.estimator.proofs.WalkLaws.{Walked, walk-start, walk-step, starts, class-in, class-limit, total-valid, walk-within, walk-small, walk-end, total-end, bucket-none}
+use Rattle.estimator.proofs.WalkLaws.{Walked, walk-start, walk-step, starts, class-used, total-valid, walk-within, walk-small, walk-end, total-end, bucket-none}
 use Rattle.estimator.proofs.pieces.bucket_piece.Statement.{statement}
 use Rattle.estimator.proofs.pieces.bucket_piece.Tie as tie
 
@@ -66,9 +66,8 @@ with-piece-requires c κs =
     let s = c .before .before .before .before .before .before .before .before .before .before .before .before in
     let l = c .before .before .before .loop in
     record {
-      class-in = class-in (s .args .words .now) (s .pre .0) (s .args .x) (s .args .y) (s .args .b) (s .pre .1) _ (c .before .before .before .before .before .before .bucket-at .ensures) (l .k) (omega arith);
+      class-used = class-used (s .args .words .now) (s .pre .0) (s .args .x) (s .args .y) (s .args .b) (s .pre .1) _ (c .before .before .before .before .before .before .bucket-at .ensures) (l .k) (omega arith);
       within = walk-within (s .args .words .now) (s .pre .0) (s .args .x) (s .args .y) (s .args .b) (s .pre .1) _ (c .before .before .before .before .before .before .bucket-at .ensures) (l .sum) (l .a) (l .k) (l .inv) (omega arith);
-      number-small = class-limit (s .args .words .now) (s .pre .0) (s .args .x) (s .args .y) (s .args .b) (s .pre .1) _ (c .before .before .before .before .before .before .bucket-at .ensures) (l .k) (omega arith);
       small = walk-small (s .args .words .now) (s .pre .0) (s .args .x) (s .args .y) (s .args .b) (s .pre .1) _ (c .before .before .before .before .before .before .bucket-at .ensures) (l .sum) (l .a) (l .k) (l .inv) (omega arith) _ refl;
     }
 

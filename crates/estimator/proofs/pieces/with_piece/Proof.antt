@@ -4,6 +4,7 @@ use native.Mathlib.Omega.{arith}
 use borrow.Author.Needs.{needs}
 use Rattle.counts_rules.specs.Form.{base}
 use Rattle.counts_rules.specs.Class.{classNumber}
+use Rattle.counts_rules.proofs.BaseLaws.{number-small}
 use Rattle.estimate_rules.specs.declared.Fraction.{Fraction}
 use Rattle.estimate_rules.specs.Fraction.{plus}
 use Rattle.estimate_rules.specs.Exact.{piece}
@@ -25,7 +26,9 @@ class-number-requires : tie.Need-class-number-requires
 class-number-requires c κs = search needs
 
 piece-of-requires : tie.Need-piece-of-requires
-piece-of-requires c κs = search needs
+piece-of-requires c κs =
+    let s = c .before .before .before in
+    (omega (arith, s .pre .within), omega (arith, c .class-number .ensures, number-small (s .args .class) (s .pre .class-used)))
 
 plus-requires : tie.Need-plus-requires
 plus-requires c κs =

@@ -18,20 +18,20 @@ use Rattle.sheet_text.proofs.printing.put_bucketlet.Tie as tie
 element-copy-out-width : tie.Need-element-copy-out-width
 element-copy-out-width c = search needs
 
-returns : tie.Need-returns
-returns c =
-    let a = c .before .before .args in
-    subst⁻¹ (Put (a .out .now) (a .out .now) (a .at) (a .at)) (empty-part (a .t1) (a .k) (omega arith)) (put-nothing (a .out .now) (a .at))
-
 element-copy-out-class : tie.Need-element-copy-out-class
 element-copy-out-class c = search needs
+
+returns : tie.Need-returns
+returns c =
+    let a = c .before .before .before .args in
+    subst⁻¹ (Put (a .out .now) (a .out .now) (a .at) (a .at)) (empty-part (a .t1) (a .k) (omega arith)) (put-nothing (a .out .now) (a .at))
 
 -- the class is in use, so that the call answers with its number
 known : (c : tie.After-number-of-class) → let a = c .before .before .before .before .args in
     Holds-number (c .number-of-class .result) (numberAt (a .t1) (a .k))
 known c =
     let s = c .before .before .before .before in
-    class-number (classAt (s .args .t1) (s .args .k)) _ (s .pre .0 .class-used (s .args .k) (s .pre .1) (omega arith)) (c .number-of-class .ensures .0)
+    class-number (classAt (s .args .t1) (s .args .k)) _ (s .pre .0 .class-used (s .args .k) (s .pre .1)) (c .number-of-class .ensures .0)
 
 returns-2 : tie.Need-returns-2
 returns-2 c = absurd (known (c .before .before) .not-refused (c .enum-told .given .1))
@@ -63,9 +63,9 @@ put-bucketlet-spec =
     (tie.spec
     (λ c. search needs)
     element-copy-out-width
-    returns
     (λ c. search needs)
     element-copy-out-class
+    returns
     (λ c κs. search needs)
     (λ c. search needs)
     (λ c. search needs)

@@ -1,0 +1,70 @@
+//! Faults of the builder.
+
+use super::Fault::*;
+use super::{holds_zero, Broken, RIGHT, SHORT};
+use crate::build::{fault, grow, lay_out, lend};
+use crate::coding::{class_for, class_number};
+use crate::fits::first_failing;
+use crate::list::{count, Bound};
+use crate::words::{write, Histogram};
+
+fn fits_at(rest: &[u32], width: usize, bound: Bound) -> bool {
+    let part = &rest[..width];
+    let s = class_number(class_for(count(part)));
+    first_failing(part, s.into(), bound).is_none()
+}
+
+/// A width that fits, next to one that does not, but not the first such.
+fn width_by_halving(rest: &[u32], limit: usize, bound: Bound) -> usize {
+    let mut good = 1;
+    while 2 * good <= limit && fits_at(rest, 2 * good, bound) {
+        good *= 2;
+    }
+    let mut bad = (2 * good).min(limit + 1);
+    while bad - good > 1 {
+        let middle = (good + bad) / 2;
+        if fits_at(rest, middle, bound) {
+            good = middle;
+        } else {
+            bad = middle;
+        }
+    }
+    good
+}
+
+impl Broken {
+    fn grow(&self, rest: &[u32], limit: usize, bound: Bound) -> usize {
+        match self.0 {
+            FittedByExactAverage if limit <= SHORT => {
+                let fits = |&width: &usize| {
+                    let part = &rest[..width];
+                    first_failing(part, count(part), bound).is_none()
+                };
+                (1..=limit).take_while(fits).count()
+            }
+            WidthByHalving if limit <= SHORT => width_by_halving(rest, limit, bound),
+            WiderQ => {
+                let wider = Bound::new(bound.theta, 8 * bound.qn + bound.qd, 8 * bound.qd);
+                grow(RIGHT.0, rest, limit, wider)
+            }
+            _ => grow(RIGHT.0, rest, limit, bound),
+        }
+    }
+
+    pub(super) fn built(&self, frequencies: &[u32], bound: Bound, lent: &mut [u32]) -> Result<usize, u32> {
+        if self.0 == ZeroFrequencyRefusedByBuilder && holds_zero(frequencies) {
+            return Err(2);
+        }
+        fault(frequencies, bound)?;
+        let buckets = lay_out(frequencies, |rest, limit| self.grow(rest, limit, bound));
+        let words = write(&Histogram::new(bound, buckets));
+        if self.0 == WordsBeforeRefusal && !lent.is_empty() {
+            lent[0] = words[0];
+        }
+        let number = lend(&words, lent)?;
+        if self.0 == RestCleared {
+            lent[number..].fill(0);
+        }
+        Ok(number)
+    }
+}

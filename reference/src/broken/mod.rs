@@ -1,0 +1,146 @@
+//! The reference with one fault on purpose, one or more for each call: the comparison must find
+//! each of them. Most of those of the builder and of the estimator are document 01's missteps.
+
+mod asking;
+mod building;
+
+use crate::build::Way;
+use crate::coding::class_start;
+use crate::list::{list_fault, Bound};
+use crate::program::*;
+
+macro_rules! faults {
+    ($($fault:ident: $call:literal,)*) => {
+        #[derive(Clone, Copy, Debug, PartialEq, Eq)]
+        pub enum Fault { $($fault),* }
+
+        use Fault::*;
+
+        /// The faults with the call that each is in, as the comparison names it.
+        pub const FAULTS: &[(Fault, &str)] = &[$(($fault, $call)),*];
+    };
+}
+
+faults! {
+    ClassAtItsStart: "class of a count",
+    ZeroCountRefused: "class of a count",
+    Class63Read: "number of a class",
+    Class0ReadAs1: "number of a class",
+    CodeOfAPowerOfTwo: "code of a total",
+    ZeroTotalRefused: "code of a total",
+    NumberOfTheLastShift: "number of a code",
+    Code0Refused: "number of a code",
+    FittedByExactAverage: "build",
+    WidthByHalving: "build",
+    WiderQ: "build",
+    RestCleared: "build",
+    WordsBeforeRefusal: "build",
+    ZeroFrequencyRefusedByBuilder: "build",
+    WholeExcused: "check",
+    ByEndThenStart: "check",
+    TotalsNotChecked: "check",
+    ZeroFrequencyRefusedByChecker: "check",
+    JudgedWithThe1: "check",
+    EachCutRounded: "estimate",
+    RoundedDown: "estimate",
+    SumOf0AnsweredWith0: "estimate",
+    EmptyRangeAnsweredWith1: "estimate",
+    Class0EstimatedAt1: "estimate",
+    FoundOneLate: "find",
+    Class0AtAWidthRefused: "find",
+    Code0AlwaysValid: "find",
+    Code0NeverValid: "find",
+    OnlyCode0BesideClasses0: "find",
+    Code0BesideLastClasses: "find",
+    LastFeedNotNeeded: "sheet",
+    SheetEndedByZero: "sheet",
+    Class0NotListed: "sheet",
+}
+
+const RIGHT: Reference = Reference(Way::FewerRanges);
+
+/// The slow faults keep to short parts, where they show as well.
+const SHORT: usize = 60;
+
+/// What refusal 2 named, which came after 1.
+fn holds_zero(frequencies: &[u32]) -> bool {
+    list_fault(frequencies) != Err(1) && frequencies.contains(&0)
+}
+
+#[derive(Clone, Copy, Debug)]
+pub struct Broken(pub Fault);
+
+impl Program for Broken {
+    fn class_of(&self, count: u32) -> QhCoded {
+        let mut answer = RIGHT.class_of(count);
+        match self.0 {
+            ZeroCountRefused if count == 0 => return Err(16).into(),
+            ClassAtItsStart if count == class_start(62) => answer.value -= 1,
+            _ => {}
+        }
+        answer
+    }
+
+    fn number_of_class(&self, class: u32) -> QhCoded {
+        match (self.0, class) {
+            (Class63Read, 63) => Ok(1_358_320_421).into(),
+            (Class0ReadAs1, 0) => Ok(1).into(),
+            _ => RIGHT.number_of_class(class),
+        }
+    }
+
+    fn code_of_total(&self, total: u32) -> QhCoded {
+        let mut answer = RIGHT.code_of_total(total);
+        match self.0 {
+            ZeroTotalRefused if total == 0 => return Err(16).into(),
+            CodeOfAPowerOfTwo if total == 1 << 20 => answer.value -= 1,
+            _ => {}
+        }
+        answer
+    }
+
+    fn number_of_total(&self, code: u32) -> QhCoded {
+        let mut answer = RIGHT.number_of_total(code);
+        match self.0 {
+            Code0Refused if code == 0 => return Err(17).into(),
+            NumberOfTheLastShift if code % 32 == 23 && answer.refusal == 0 => answer.value += 1,
+            _ => {}
+        }
+        answer
+    }
+
+    fn build(&self, frequencies: &[u32], bound: Bound, lent: &mut [u32]) -> QhBuilt {
+        self.built(frequencies, bound, lent).into()
+    }
+
+    fn check(&self, frequencies: &[u32], words: &[u32]) -> QhVerdict {
+        self.checked(frequencies, words).into()
+    }
+
+    fn estimate(&self, words: &[u32], x: u32, y: u32) -> QhEstimate {
+        self.estimated(words, x, y).into()
+    }
+
+    fn find(&self, words: &[u32], entry: u32) -> QhFound {
+        self.found(words, entry)
+    }
+
+    fn sheet(&self, input: &[u8], lent: &mut Sheet) -> usize {
+        let mut input = input.to_vec();
+        if self.0 == LastFeedNotNeeded && input.last().is_some_and(u8::is_ascii_digit) {
+            input.push(b'\n');
+        }
+        let mut length = RIGHT.sheet(&input, lent);
+        match self.0 {
+            SheetEndedByZero => lent[length] = 0,
+            Class0NotListed => {
+                let lines = lent[..length].split_inclusive(|&byte| byte == b'\n');
+                let listed = lines.filter(|line| !line.ends_with(b" code 0 count 0\n")).collect::<Vec<_>>().concat();
+                length = listed.len();
+                lent[..length].copy_from_slice(&listed);
+            }
+            _ => {}
+        }
+        length
+    }
+}
