@@ -70,7 +70,7 @@ extern "C" {
 /* The length of the list `out` of qh_sheet, in bytes. */
 #define QH_SHEET_BYTES 163840
 
-/* The refusals by name. */
+/* The refusals by name. No sentence has the number 2. */
 enum {
     QH_REFUSED_LIST_LENGTH = 1,
     QH_REFUSED_SUM = 3,

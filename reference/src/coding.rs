@@ -85,7 +85,7 @@ pub fn code_for(total: u64) -> u32 {
     (total >> shift) as u32 * 32 + shift
 }
 
-/// Whether a code is valid beside any classes, as code 0 is not.
+/// Whether a code is valid whatever the classes beside it are; code 0 needs eight classes 0.
 pub fn code_valid(code: u32) -> bool {
     let (bits, shift) = (code / 32, code % 32);
     match shift {

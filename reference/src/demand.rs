@@ -1,7 +1,7 @@
 //! Demand 3: on an accepted pair, for whole k from 3, a range whose true count or estimate is
 //! above k theta has the two within q k/(k - 2) of each other, where the estimate is allowed
 //! the less than 1 that rounding up adds. Of a range whose sum is 0 this says nothing: its count
-//! is 0, and its estimate 1.
+//! is 0, and its estimate at most 1.
 
 use crate::list::Bound;
 

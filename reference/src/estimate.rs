@@ -1,4 +1,4 @@
-//! "Asking", the estimator: one exact sum, rounded up once, and 1 where it is 0.
+//! "Asking", the estimator: one exact sum, rounded up once, and 1 where it is 0 and the range is not empty.
 
 use crate::coding::{class_number, code_number};
 use crate::words::{read, Bucket, Histogram};

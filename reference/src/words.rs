@@ -177,7 +177,8 @@ fn bucket(group: &[u32], start: u32, end: u32) -> Option<Bucket> {
     })
 }
 
-/// Refusal 12 of one bucket. Class 0 may have any width, but a width of 0 has no other class.
+/// Refusal 12 of one bucket. Class 0 may have any width, but a width of 0 has no other class; code 0
+/// is valid beside eight classes 0 alone.
 fn coded(bucket: &Bucket) -> bool {
     let mut pairs = bucket.classes.iter().zip(&bucket.widths);
     let zeros = bucket.classes == [0; 8] && bucket.total == 0;

@@ -1,4 +1,4 @@
-//! The numbers of lists with zeros, as request (iv) of document 02 has them.
+//! What request (iv) of document 02 makes of lists with zeros, in numbers.
 
 use reference::build::{grow, histogram, Way, WAYS};
 use reference::check::{check, Verdict};

@@ -46,7 +46,7 @@ pub record HighestBit (t h : ℕ) : Type 0 where
   pub below : t < 2 ^ (h + 1)
 
 pub record Totals : Type 0 where
-  -- a total has just one highest set bit
+  -- a total from 1 up has just one highest set bit
   pub highest-bit : (t : ℕ) → 1 ≤ t → HighestBit t (highestBit t)
   pub one-highest-bit : (t h : ℕ) → HighestBit t h → highestBit t ≡ h
   -- 0 has code 0, which stands for it, and no other count has it

@@ -1,5 +1,6 @@
 //! The reference with one fault on purpose, one or more for each call: the comparison must find
-//! each of them. Most of those of the builder and of the estimator are document 01's missteps.
+//! each of them. `FittedByExactAverage`, `WidthByHalving`, `WiderQ` and `EachCutRounded` are document
+//! 01's missteps; those about a zero, about 0 and about the 1 are missteps of request (iv).
 
 mod asking;
 mod building;

@@ -10,7 +10,8 @@ use crate::words::{write, Histogram};
 
 const ZEROS: Asking = Asking { check: CheckZeros, estimate: EstimateZeros, find: FindSmall, demand: DemandZeros };
 
-/// Zeros by themselves, at either end of a bucketlet and inside it, and bucketlets of zeros between others.
+/// Zeros by themselves, at either end of a bucketlet and inside it, and bucketlets of zeros between others; the last
+/// two are there for class 0 alone.
 const LISTS: [(&[u32], Bound); 11] = [
     (&[0], Bound::new(1, 5, 4)),
     (&[0, 0, 0], Bound::new(1, 3, 2)),
@@ -58,14 +59,15 @@ impl Comparison<'_> {
     pub(super) fn lists_with_zeros(&mut self) {
         let mut random = self.random(12);
         let mut list = |comparison: &mut Self, frequencies: &[u32], bound: Bound| {
-            comparison.counts.lists += 1;
             comparison.small_list(&mut random, (BuildZeros, ZEROS, ZEROS), frequencies, bound, true);
         };
         for (frequencies, bound) in LISTS {
+            self.counts.lists += 1;
             list(self, frequencies, bound);
             self.class_0_alone(frequencies, bound);
         }
         for frequencies in (1..=self.volume.tiny).flat_map(short_lists) {
+            self.counts.lists += 1;
             for bound in BOUNDS {
                 list(self, &frequencies, bound);
             }
@@ -99,10 +101,12 @@ impl Comparison<'_> {
     /// Asks all of a histogram, and checks lists by it, most of which it is not made for.
     fn by_lists(&mut self, words: &[u32], lists: impl IntoIterator<Item = Vec<u32>>) {
         self.counts.foreign += 1;
-        for frequencies in lists {
-            self.check(CheckZeros, &frequencies, words);
-        }
         let d = words[0];
+        for frequencies in lists {
+            if self.check(CheckZeros, &frequencies, words) {
+                self.demand_three(DemandZeros, &frequencies, words, all_ranges(d));
+            }
+        }
         for range in all_ranges(d) {
             self.estimate(EstimateZeros, words, range);
         }
