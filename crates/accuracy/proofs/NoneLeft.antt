@@ -23,10 +23,11 @@ use Rattle.fit.proofs.AcceptedLaws.{Fitting}
 use Rattle.fit.proofs.ZeroLaws.{number-0, none-counted}
 use Rattle.estimate_rules.specs.declared.Fraction.{Fraction}
 use Rattle.estimate_rules.specs.Fraction.{number, plus, numerator}
-use Rattle.estimate_rules.specs.Exact.{inside, overlap, piece, bucketletPiece, exact}
+use Rattle.estimate_rules.specs.Exact.{inside, piece, bucketletPiece, exact}
 use Rattle.estimate_rules.proofs.ExactLaws.{inside-says, piece-none, piece-whole, piece-cut}
 use Rattle.estimate_rules.proofs.SpanLaws.{Joined, exact-holds}
 use Rattle.accuracy.proofs.Ranges.{countIn, count-join, count-same, count-none, count-some, count-all}
+use Rattle.accuracy.proofs.Pieces.{met}
 use Rattle.accuracy.proofs.Estimate.{total-count}
 
 -- what is shown of a span from a to e and of the fraction that estimates what the range holds of it
@@ -49,31 +50,26 @@ module _ (fs : List ℕ) (x y : ℕ) where
   vanishing-joined = record { none = λ a. record { positive = omega arith; none = λ z. count-same fs x y a }; join = vanishing-join }
 
   module _ (q : Quality) (least : 1 ≤ q .qd) (a w s : ℕ) (ordered : x ≤ y) (good : 0 < w → bucketletFits q fs a w s ≡ true) where
-    met : ℕ
-    met = overlap x y a (a + w)
-
     -- of a bucketlet that stands for 0 the range counts 0
-    counts-none : 0 < met → s ≡ 0 → countIn fs x y a (a + w) ≡ 0
-    unfolding met
+    counts-none : 0 < met x y a w → s ≡ 0 → countIn fs x y a (a + w) ≡ 0
     counts-none p z =
         let whole = none-counted q fs a w s least good z in
-        let part = part-within a w (max x a) met fs (omega arith) (omega arith) in
+        let part = part-within a w (max x a) (met x y a w) fs (omega arith) (omega arith) in
         omega (arith, count-some fs x y a (a + w) ordered p)
 
     vanishing-piece : Vanishing fs x y a (a + w) (piece x y a w s)
-    unfolding met
     vanishing-piece =
         ⊎-elim
-        (λ (z : met ≡ 0).
+        (λ (z : met x y a w ≡ 0).
         subst (Vanishing fs x y a (a + w)) (sym (piece-none x y a w s z)) (record { positive = omega arith; none = λ _. count-none fs x y a (a + w) ordered z }))
-        (λ (p : 0 < met). ⊎-elim
+        (λ (p : 0 < met x y a w). ⊎-elim
         (λ (t : inside x y a (a + w) ≡ true).
         subst (Vanishing fs x y a (a + w)) (sym (piece-whole x y a w s p t)) (record { positive = omega arith; none = λ z. counts-none p (omega arith) }))
         (λ (t : inside x y a (a + w) ≡ false).
         subst (Vanishing fs x y a (a + w)) (sym (piece-cut x y a w s p t))
         (record { positive = omega arith; none = λ z. counts-none p (omega (arith, mul-le-mul-right s p)) }))
         (tested (inside x y a (a + w))))
-        (eq-zero-or-pos met)
+        (eq-zero-or-pos (met x y a w))
 
 module _ (fs ws : List ℕ) (ok : Fitting fs ws) (x y : ℕ) (ordered : x ≤ y) where
   least : 1 ≤ qualityOf ws .qd

@@ -55,7 +55,7 @@ module _ (q : Quality) (f s w : ℕ) (some : 0 < w) where
       (fits-says q f (n * s) w t)
 
 -- how many entries of the bucketlet the range holds
-abbrev met : ℕ → ℕ → ℕ → ℕ → ℕ
+abbrev pub met : ℕ → ℕ → ℕ → ℕ → ℕ
 met x y a w = overlap x y a (a + w)
 
 module _ (q : Quality) (fs : List ℕ) (x y a w s : ℕ) (ordered : x ≤ y) (good : 0 < w → bucketletFits q fs a w s ≡ true) where
