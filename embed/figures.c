@@ -20,6 +20,8 @@ static size_t passed, failed;
 /* Frequencies, and words of histograms. */
 static const uint32_t four_tens[] = {10, 10, 10, 10}; /* with its words, of document 01: theta 1, q 3/2 */
 static const uint32_t tens[] = {4, 1, 0xC02, 1, 0x40000204, 0x8B000000, 0x80000500, 0xC0000000, 0xC0000000};
+static const uint32_t q_8[] = {4, 1, 0x2001, 1, 0x40000204, 0x8B000000, 0x80000500, 0xC0000000, 0xC0000000};
+static const uint32_t q_9[] = {4, 1, 0x2401, 1, 0x40000204, 0x8B000000, 0x80000500, 0xC0000000, 0xC0000000};
 static const uint32_t three_zeros[] = {0, 0, 0}; /* with its words: theta 1, q 3/2 */
 static const uint32_t zeros[] = {3, 1, 0xC02, 1, 0x40000203, 0x80000000, 0x80000000, 0xC0000000, 0xC0000000};
 static const uint32_t two[] = { /* of words_rules/specs/Worked.antt: two buckets, of the entries 0 to 3 and 4 to 9 */
@@ -85,18 +87,24 @@ static void builds(void) {
     const uint32_t turns[] = {1, 100, 1, 100, 1, 100, 1, 100, 1};
     const uint32_t of_turns[] = {9, 1, 0xC02, 2, 0x40000201, 0x81381381, 0x8E04ECA2, 0xC0040201, 0xC0040201,
                                  0x40002201, 0x81000000, 0x80000020, 0xC0000000, 0xC0000000};
+    /* by hand: 4 has class 5 and the code 128 */
+    const uint32_t of_four[] = {1, 7, 0x2001, 1, 0x40000201, 0x85000000, 0x80000080, 0xC0000000, 0xC0000000};
     const uint32_t large[] = {1073741823, 0, 1};
     memset(out, MARK, sizeof out);
     built("10, 10, 10, 10", qh_build(LIST(four_tens), 1, 3, 2, LIST(out)), (QhBuilt){.words = 9}, tens);
     built("4, 1, 4, 1", qh_build(LIST(fours), 7, 5, 4, LIST(out)), (QhBuilt){.words = 9}, of_fours);
     built("nine entries", qh_build(LIST(turns), 1, 3, 2, LIST(out)), (QhBuilt){.words = 14}, of_turns);
     built("0, 0, 0", qh_build(LIST(three_zeros), 1, 3, 2, LIST(out)), (QhBuilt){.words = 9}, zeros);
-    /* the sentences 1 and 3 to 6, tested in this order */
+    /* q is 8 itself, which is taken: 8 * 1024 + 1 */
+    built("q 8/1", qh_build(fours, 1, 7, 8, 1, LIST(out)), (QhBuilt){.words = 9}, of_four);
+    /* the sentences 1, 3, 4, 5, 24 and 6, tested in this order */
     built("no entry", qh_build(fours, 0, 1, 3, 2, LIST(out)), (QhBuilt){.refusal = QH_REFUSED_LIST_LENGTH}, NULL);
     built("a sum of 1,073,741,824", qh_build(LIST(large), 0, 3, 2, LIST(out)),
           (QhBuilt){.refusal = QH_REFUSED_SUM}, NULL);
     built("theta 0", qh_build(LIST(fours), 0, 124, 100, LIST(out)), (QhBuilt){.refusal = QH_REFUSED_THETA}, NULL);
     built("q 124/100", qh_build(LIST(fours), 1, 124, 100, LIST(out)), (QhBuilt){.refusal = QH_REFUSED_Q}, NULL);
+    built("q 1001/1", qh_build(LIST(fours), 1, 1001, 1, out, 0), (QhBuilt){.refusal = QH_REFUSED_Q}, NULL);
+    built("q 9/1", qh_build(LIST(fours), 1, 9, 1, out, 0), (QhBuilt){.refusal = QH_REFUSED_LARGE_Q}, NULL);
     built("eight words for nine", qh_build(LIST(four_tens), 1, 3, 2, out, 8),
           (QhBuilt){.refusal = QH_REFUSED_ROOM}, NULL);
 }
@@ -126,6 +134,9 @@ static void verdicts(void) {
     verdict("next-total", qh_check(LIST(twos), LIST(wrong_total)),
             (QhVerdict){.sort = QH_SORT_BUCKET, .start = 2, .end = 4});
     verdict("zeros-taken", qh_check(LIST(three_zeros), LIST(zeros)), (QhVerdict){.accepted = 1});
+    verdict("q-8", qh_check(LIST(four_tens), LIST(q_8)), (QhVerdict){.accepted = 1});
+    verdict("q-9", qh_check(LIST(four_tens), LIST(q_9)), (QhVerdict){.refusal = QH_REFUSED_LARGE_Q});
+    verdict("q-before", qh_check(four_tens, 1, q_9, 8), (QhVerdict){.refusal = QH_REFUSED_LARGE_Q});
     verdict("no-entry", qh_check(four_tens, 0, tens, 0), (QhVerdict){.refusal = QH_REFUSED_LIST_LENGTH});
     verdict("no-words", qh_check(four_tens, 1, tens, 0), (QhVerdict){.refusal = QH_REFUSED_HEAD});
     verdict("other-length", qh_check(four_tens, 1, LIST(tens)), (QhVerdict){.refusal = QH_REFUSED_OTHER_LIST});
@@ -145,6 +156,8 @@ static void estimates(void) {
     estimated("4 to 5 of tens", qh_estimate(LIST(tens), 4, 5), (QhEstimate){.refusal = QH_REFUSED_RANGE});
     estimated("3 to 2 of tens, turned", qh_estimate(LIST(tens), 3, 2), (QhEstimate){.refusal = QH_REFUSED_RANGE});
     estimated("4 to 5 of eight words", qh_estimate(tens, 8, 4, 5), (QhEstimate){.refusal = QH_REFUSED_WORD_COUNT});
+    estimated("4 to 5 of q 8/1", qh_estimate(LIST(q_8), 4, 5), (QhEstimate){.refusal = QH_REFUSED_RANGE});
+    estimated("4 to 5 of q 9/1", qh_estimate(LIST(q_9), 4, 5), (QhEstimate){.refusal = QH_REFUSED_LARGE_Q});
     estimated("0 to 3 of zeros", qh_estimate(LIST(zeros), 0, 3), (QhEstimate){.estimate = 1});
     estimated("3 to 3 of zeros", qh_estimate(LIST(zeros), 3, 3), (QhEstimate){.estimate = 0});
     estimated("2 to 10 of two", qh_estimate(LIST(two), 2, 10), (QhEstimate){.estimate = 135});
@@ -171,6 +184,8 @@ static void places(void) {
     found("entry 10 of two", qh_find(LIST(two), 10), (QhFound){.refusal = QH_REFUSED_ENTRY});
     found("entry 10 of thirteen words", qh_find(two, 13, 10), (QhFound){.refusal = QH_REFUSED_WORD_COUNT});
     found("entry 0 of no word", qh_find(two, 0, 0), (QhFound){.refusal = QH_REFUSED_HEAD});
+    found_changed("q 15/1", 2, 0x3C01, QH_REFUSED_LARGE_Q);
+    found_changed("q 1001/1", 2, 0xFA401, QH_REFUSED_HEAD);
     found_changed("another kind", 9, 0x80001001, QH_REFUSED_BUCKET_WORD);
     found_changed("a start not above the one before it", 9, 0x40000001, QH_REFUSED_START);
     found_changed("listed widths above the span", 4, 0x40000202, QH_REFUSED_WIDTH);
@@ -197,6 +212,7 @@ static void sheets(void) {
     sheet("the sheet of 0, 0, 0", "1\n3\n2\n0\n0\n0\n",
           "codes 3 theta 1 q 3/2 buckets 1\nbucket 0 3 total 0 0\n0 3 code 0 count 0\n");
     sheet("the sheet of q 124/100", "1\n124\n100\n1\n", "refused 5\n");
+    sheet("the sheet of q 15/1", "1\n15\n1\n1\n100\n", "refused 24\n");
     sheet("the sheet of no entry", "1\n3\n2\n", "refused 18\n");
 }
 

@@ -226,9 +226,10 @@ static void lent_lengths(void) {
 }
 
 static void qualities(void) {
-    const uint32_t values[] = {0, 1, 3, 1000, 1001, 1048575, 1048576, UINT32_MAX};
-    for (size_t i = 0; i < 8 * 8 * 8; i++) {
-        try_build(freqs, volume < 64 ? volume : 64, values[i / 64], values[i / 8 % 8], values[i % 8], QH_WORDS_FOR(64));
+    const uint32_t values[] = {0, 1, 3, 8, 125, 1000, 1001, 1048575, 1048576, UINT32_MAX};
+    const size_t n = sizeof values / sizeof *values;
+    for (size_t i = 0; i < n * n * n; i++) {
+        try_build(freqs, volume < 64 ? volume : 64, values[i / n / n], values[i / n % n], values[i % n], QH_WORDS_FOR(64));
     }
 }
 

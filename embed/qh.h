@@ -10,7 +10,8 @@
  *   entry      the place of a word form in the list, 0 to d - 1, where d is the length of the list
  *   range      from x to y: the entries from x up to y, without y; its count is the sum of their frequencies, each of
  *              which is how often a form occurs, and 0 if it no longer does
- *   theta, q   how close the estimates come: theta is 1 to 1,048,575; q is qn / qd, both 1 to 1,000, at least 5/4
+ *   theta, q   how close the estimates come: theta is 1 to 1,048,575; q is qn / qd, both 1 to 1,000, and at least 5/4
+ *              (else 5, and 7 in words) and at most 8 (else 24)
  *   bucket     a stretch of the list with a total, in eight bucketlets, each with a number for its entries together
  *   histogram  a list of words, four at the head and five for each bucket (the repository's docs/METHOD.md, "Words").
  *              They are numbers: a program that stores them as bytes must see to the byte order itself.
@@ -70,7 +71,7 @@ extern "C" {
 /* The length of the list `out` of qh_sheet, in bytes. */
 #define QH_SHEET_BYTES 163840
 
-/* The refusals by name. No sentence has the number 2. */
+/* The refusals by name. The numbers 2 and 19 to 23 have no sentence. */
 enum {
     QH_REFUSED_LIST_LENGTH = 1,
     QH_REFUSED_SUM = 3,
@@ -88,7 +89,8 @@ enum {
     QH_REFUSED_ENTRY = 15,
     QH_REFUSED_COUNT = 16,
     QH_REFUSED_READING = 17,
-    QH_REFUSED_INPUT = 18
+    QH_REFUSED_INPUT = 18,
+    QH_REFUSED_LARGE_Q = 24
 };
 
 /* The table of refusals: the sentence of a refusal, NULL for any other number. */
@@ -111,6 +113,7 @@ static inline const char *qh_sentence(uint32_t refusal) {
     case QH_REFUSED_COUNT: return "A count to be coded, as class or total, is above 1,073,741,823.";
     case QH_REFUSED_READING: return "A class to be read is 2, 63 or above, or a total code to be read is not valid.";
     case QH_REFUSED_INPUT: return "The input is not theta, qn, qd and 1 to 4,096 frequencies: decimal numbers below 4,294,967,296 without leading zeros, one a line, each line ended by a line feed.";
+    case QH_REFUSED_LARGE_Q: return "q is above 8.";
     default: return NULL;
     }
 }
@@ -127,7 +130,7 @@ typedef struct {
 
 /* Writes the histogram of a list to the start of out, each bucketlet widened entry by entry as long as it fits theta and
  * q and the layout has room; the words of out after it are as they were. An out of QH_WORDS_FOR(freqs_len) words is
- * never too short. A frequency may be 0. Refused with 1, then 3 to 6. */
+ * never too short. A frequency may be 0. Refused with 1, 3, 4, 5, 24, then 6. */
 QhBuilt qh_build(const uint32_t *freqs, size_t freqs_len, uint32_t theta, uint32_t qn, uint32_t qd,
                  uint32_t *out, size_t out_len);
 
@@ -149,7 +152,7 @@ typedef struct {
 /* Whether the histogram is accepted for the list: the number of each bucketlet and the total of each bucket is within
  * the factor q of the count, and so is, for a part of a bucketlet, its share of the number, unless it and the count are
  * at most theta. What fails is looked for bucket by bucket: in each bucketlet by start and then by end, the total last.
- * Refused with 1, 3, then 7 to 13. */
+ * Refused with 1, 3, 7, 24, then 8 to 13. */
 QhVerdict qh_check(const uint32_t *freqs, size_t freqs_len, const uint32_t *words, size_t words_len);
 
 typedef struct {
@@ -159,7 +162,7 @@ typedef struct {
 
 /* The estimated count of the range from x to y: the totals of the buckets that lie wholly in it, the numbers of the
  * other bucketlets that do, and the share of each bucketlet that it cuts, all in one sum that is rounded up, and 1 where
- * the sum is 0; but 0 if the range is empty. Refused with 7 to 12, then 14. */
+ * the sum is 0; but 0 if the range is empty. Refused with 7, 24, 8 to 12, then 14. */
 QhEstimate qh_estimate(const uint32_t *words, size_t words_len, uint32_t x, uint32_t y);
 
 typedef struct {
@@ -167,7 +170,7 @@ typedef struct {
     size_t at;
 } QhFound;
 
-/* The bucket of an entry: its five words are words[at] to words[at + 4]. Refused with 7 to 12, then 15. */
+/* The bucket of an entry: its five words are words[at] to words[at + 4]. Refused with 7, 24, 8 to 12, then 15. */
 QhFound qh_find(const uint32_t *words, size_t words_len, uint32_t entry);
 
 typedef struct {
@@ -197,7 +200,7 @@ QhCoded qh_number_of_total(uint32_t code);
  * zeros, each line ended by a line feed: theta, qn, qd and 1 to 4,096 frequencies. The sheet has a line of d, theta, q
  * and the number of buckets; for each bucket one of its start, end, total code and the code's number; and after it, for
  * each of its bucketlets that holds an entry, one of its start, end, class and the class's number. Where the input is not
- * so (18), or qh_build would refuse what it holds (3 to 5), the sheet is one line, `refused` and the number. */
+ * so (18), or qh_build would refuse what it holds (3, 4, 5 or 24), the sheet is one line, `refused` and the number. */
 size_t qh_sheet(const uint8_t *input, size_t input_len, uint8_t out[QH_SHEET_ROOM]);
 
 #ifdef __cplusplus

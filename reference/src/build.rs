@@ -139,7 +139,7 @@ fn next_bucket(frequencies: &[u32], start: usize, grow: impl Fn(&[u32], usize) -
     bucket
 }
 
-/// Refusals 1 and 3 to 5.
+/// Refusals 1, 3 to 5 and 24.
 pub fn fault(frequencies: &[u32], bound: Bound) -> Result<(), u32> {
     list_fault(frequencies)?;
     if !bound.theta_within_limits() {
@@ -147,6 +147,9 @@ pub fn fault(frequencies: &[u32], bound: Bound) -> Result<(), u32> {
     }
     if !bound.q_within_limits() {
         return Err(5);
+    }
+    if bound.q_too_large() {
+        return Err(24);
     }
     Ok(())
 }
@@ -165,7 +168,7 @@ pub fn lend(words: &[u32], lent: &mut [u32]) -> Result<usize, u32> {
     Ok(words.len())
 }
 
-/// Builds into a lent list; refusals 1 and 3 to 6.
+/// Builds into a lent list; refusals 1, 3 to 5, 24 and 6.
 pub fn build(way: Way, frequencies: &[u32], bound: Bound, lent: &mut [u32]) -> Result<usize, u32> {
     lend(&write(&histogram(way, frequencies, bound)?), lent)
 }

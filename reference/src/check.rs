@@ -11,7 +11,7 @@ pub enum Verdict {
     Fails { sort: Sort, start: u32, end: u32 },
 }
 
-/// Refusals 1 and 3, then 7 to 13; then what fails first.
+/// Refusals 1 and 3, those of reading, then 13; then what fails first.
 pub fn check(frequencies: &[u32], words: &[u32]) -> Result<Verdict, u32> {
     let histogram = readable(frequencies, words)?;
     Ok(verdict(frequencies, &histogram, first_failing))

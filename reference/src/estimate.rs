@@ -58,7 +58,7 @@ pub fn exact_of(buckets: &[Bucket], x: u32, y: u32) -> Fraction {
     sum
 }
 
-/// Refusals 7 to 12, then 14.
+/// The refusals of reading, then 14.
 pub fn asked(words: &[u32], x: u32, y: u32) -> Result<Histogram, u32> {
     let histogram = read(words)?;
     if x > y || y > histogram.head.d {

@@ -1,5 +1,5 @@
-//! A reference for document 01 with request (iv) of document 02, written from their text and
-//! meant to be read beside it, and the comparison of another program with it.
+//! A reference for document 01 with requests (iv) and (v) of document 02, written from their text
+//! and meant to be read beside it, and the comparison of another program with it.
 
 // The sections of document 01.
 pub mod big;

@@ -6,6 +6,7 @@ pub const MOST_ENTRIES: usize = 65_536;
 pub const COUNT_LIMIT: u32 = 1_073_741_823;
 pub const MOST_THETA: u32 = 1_048_575;
 pub const MOST_Q_PART: u32 = 1_000;
+pub const MOST_Q: u32 = 8;
 
 /// Theta and q, which is qn/qd and never reduced: both parts are stored and printed.
 #[derive(Clone, Copy, Debug, PartialEq, Eq)]
@@ -28,6 +29,11 @@ impl Bound {
         let part = 1..=MOST_Q_PART;
         // The parts come first: larger ones would overflow the products.
         part.contains(&self.qn) && part.contains(&self.qd) && 4 * self.qn >= 5 * self.qd
+    }
+
+    /// Refusal 24. In 64 bits it can be asked of any two parts.
+    pub fn q_too_large(self) -> bool {
+        u64::from(MOST_Q) * u64::from(self.qd) < u64::from(self.qn)
     }
 }
 

@@ -43,7 +43,7 @@ fn listing(histogram: &Histogram) -> String {
 }
 
 /// Refusal 18, then as the builder.
-fn listed(way: Way, input: &[u8]) -> Result<String, u32> {
+fn listed(input: &[u8], build: impl Fn(&[u32], Bound) -> Result<Histogram, u32>) -> Result<String, u32> {
     let numbers = numbers(input).ok_or(18u32)?;
     let [theta, qn, qd, frequencies @ ..] = &numbers[..] else {
         return Err(18);
@@ -52,10 +52,15 @@ fn listed(way: Way, input: &[u8]) -> Result<String, u32> {
         return Err(18);
     }
     let bound = Bound::new(*theta, *qn, *qd);
-    Ok(listing(&histogram(way, frequencies, bound)?))
+    Ok(listing(&build(frequencies, bound)?))
 }
 
 /// All that the program prints.
 pub fn printed(way: Way, input: &[u8]) -> String {
-    listed(way, input).unwrap_or_else(|refusal| format!("refused {refusal}\n"))
+    printed_by(input, |frequencies, bound| histogram(way, frequencies, bound))
+}
+
+/// The same, with `build` for the histogram of the list.
+pub fn printed_by(input: &[u8], build: impl Fn(&[u32], Bound) -> Result<Histogram, u32>) -> String {
+    listed(input, build).unwrap_or_else(|refusal| format!("refused {refusal}\n"))
 }

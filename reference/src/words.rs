@@ -1,4 +1,4 @@
-//! "Words": the layout, reading with refusals 7 to 12, writing, and the finder.
+//! "Words": the layout, reading with refusals 7 to 12 and 24, writing, and the finder.
 
 use crate::coding::{class_in_use, code_valid};
 use crate::list::{Bound, MOST_ENTRIES};
@@ -133,9 +133,12 @@ fn widths(words: &[u32], span: u32) -> Option<[u32; 8]> {
     Some(widths)
 }
 
-/// Reads a histogram. Each refusal is tested on all words before the next.
+/// Reads a histogram; refusals 7, 24 and 8 to 12. Each is tested on all words before the next.
 pub fn read(words: &[u32]) -> Result<Histogram, u32> {
     let head = head(words)?;
+    if head.bound.q_too_large() {
+        return Err(24);
+    }
     if words.len() != HEADS + PER_BUCKET * head.buckets as usize {
         return Err(8);
     }
@@ -209,7 +212,7 @@ fn written(bucket: &Bucket) -> [u32; PER_BUCKET] {
     ]
 }
 
-/// The five words of the bucket that holds an entry; refusals 7 to 12, then 15.
+/// The five words of the bucket that holds an entry; the refusals of reading, then 15.
 pub fn find(words: &[u32], entry: u32) -> Result<&[u32], u32> {
     let Histogram { head, buckets } = read(words)?;
     if entry >= head.d {

@@ -1,6 +1,6 @@
 //! The comparison finds nothing where there is nothing, and each known fault where it is.
 
-use reference::broken::{Broken, FAULTS};
+use reference::broken::{Broken, Fault, FAULTS};
 use reference::build::Way;
 use reference::compare::{Comparison, Volume};
 use reference::program::{Program, Reference};
@@ -22,14 +22,22 @@ fn a_right_program_passes() {
     }
 }
 
+/// Fails unless a fault is found in its call and nowhere else.
+fn expect_found(fault: Fault, call: &'static str) {
+    let (passed, out) = compared(&Broken { fault, call });
+    assert!(!passed, "{fault:?} in {call} was not found");
+    assert!(!out.ends_with(" 0 failed\n"), "{fault:?} in {call}: {out}");
+    let failed: Vec<&str> = out.lines().filter_map(|line| line.strip_prefix("FAILED  ")).collect();
+    assert!(!failed.is_empty(), "{fault:?} in {call}: {out}");
+    assert!(failed.iter().all(|group| group.starts_with(call)), "{fault:?} in {call}: {failed:?}");
+}
+
 #[test]
 fn every_fault_is_found_in_its_call_and_nowhere_else() {
-    for &(fault, call) in FAULTS {
-        let (passed, out) = compared(&Broken(fault));
-        assert!(!passed, "{fault:?} was not found");
-        assert!(!out.ends_with(" 0 failed\n"), "{fault:?}: {out}");
-        let failed: Vec<&str> = out.lines().filter_map(|line| line.strip_prefix("FAILED  ")).collect();
-        assert!(!failed.is_empty(), "{fault:?}: {out}");
-        assert!(failed.iter().all(|group| group.starts_with(call)), "{fault:?}: {failed:?}");
-    }
+    // In halves, since this takes longer than all other tests together.
+    std::thread::scope(|scope| {
+        for half in FAULTS.chunks(FAULTS.len().div_ceil(2)) {
+            scope.spawn(|| half.iter().for_each(|&(fault, call)| expect_found(fault, call)));
+        }
+    });
 }

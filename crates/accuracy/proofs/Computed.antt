@@ -6,7 +6,7 @@ use Rattle.laws.specs.Search.{first, largest, root}
 use Rattle.counts_rules.specs.Class.{classNumber}
 use Rattle.counts_rules.specs.Total.{middle, totalNumber, validFields}
 use Rattle.words_rules.specs.Decoded.{decode}
-use Rattle.words_rules.specs.Reading.{headGood, headFault, lengthFault, wordsBroken, wordFault, startFault, widthsBroken, widthFault, classBroken, totalBroken, codesBroken, codeFault}
+use Rattle.words_rules.specs.Reading.{headGood, headFault, largeQFault, lengthFault, wordsBroken, wordFault, startFault, widthsBroken, widthFault, classBroken, totalBroken, codesBroken, codeFault}
 use Rattle.fit.specs.Fit.{rangesFit, bucketletFits}
 use Rattle.list_rules.specs.Frequencies.{entriesFault, sumFault}
 use Rattle.fit.specs.Accepted.{mismatch, accepted}
@@ -16,5 +16,5 @@ use Rattle.estimate_rules.specs.Asking.{rangeFault, raised, estimate, estimateR
 use Rattle.accuracy.specs.Worked.{Worked}
 
 pub worked : Worked
-unfolding each some refusal first largest root classNumber middle totalNumber validFields decode headGood headFault lengthFault wordsBroken wordFault startFault widthsBroken widthFault classBroken totalBroken codesBroken codeFault rangesFit bucketletFits entriesFault sumFault mismatch accepted sumOf rounded piece bucketPiece exact rangeFault raised estimate estimateReply
+unfolding each some refusal first largest root classNumber middle totalNumber validFields decode headGood headFault largeQFault lengthFault wordsBroken wordFault startFault widthsBroken widthFault classBroken totalBroken codesBroken codeFault rangesFit bucketletFits entriesFault sumFault mismatch accepted sumOf rounded piece bucketPiece exact rangeFault raised estimate estimateReply
 worked = record { all-accepted = refl; counts = refl; answers = refl; two-cuts = refl; below-theta = refl; needs-q = refl; zeros-accepted = refl; zeros-answered = refl }

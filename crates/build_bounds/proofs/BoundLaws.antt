@@ -13,7 +13,7 @@ use Rattle.laws.specs.Private.Greatest.{Greatest}
 use Rattle.laws.specs.Sums.{partSum}
 use Rattle.laws.proofs.SumsLaws.{part-add}
 use Rattle.counts_rules.specs.Limit.{limit}
-use Rattle.list_rules.specs.Limits.{maxQ}
+use Rattle.list_rules.specs.Limits.{maxQPart}
 use Rattle.words_rules.specs.Limits.{maxWidth}
 use Rattle.list_rules.specs.declared.Quality.{Quality}
 use Rattle.build_rules.proofs.WidthLaws.{count-small}
@@ -39,7 +39,7 @@ module _ (q : Quality) (fs : List ℕ) (a : ℕ) (sound : Sound fs q) where
       record { kept = kept-none q fs a; low-top = omega arith; low-bottom = omega arith; up-top = omega arith; up-bottom = omega arith }
 
   -- a cap is small and not 0
-  cap-small : (i n : ℕ) → rangeCap q fs a i n ≤ maxQ * limit
+  cap-small : (i n : ℕ) → rangeCap q fs a i n ≤ maxQPart * limit
   cap-small i n =
       omega (arith, mul-le-mul (sound .qd-small) (sound .theta-small), mul-le-mul (sound .qn-small) (count-small q fs sound (a + i) n))
 
@@ -56,7 +56,7 @@ module _ (q : Quality) (fs : List ℕ) (a : ℕ) (sound : Sound fs q) where
     record Up (j : ℕ) (p : Ratio) : Type 0 where
       greatest : Greatest rangeLength (rangeCap q fs a) (Seen w j) (p .top) (p .bottom)
       top : p .top ≤ maxWidth
-      bottom : p .bottom ≤ maxQ * limit
+      bottom : p .bottom ≤ maxQPart * limit
 
     low-step : (p : Ratio) → Low (suc i) p → Low i (counted p (q .theta) (rangeCount fs a i (w - i)) (w - i))
     low-step p l = go (ltb (q .theta) f) refl

@@ -8,7 +8,7 @@ use Prim.Native.Nat.{ℕ, zero, suc, _+_, _-_, _*_, _^_, _≤_, _<_}
 use native.Mathlib.Nat.{eq-or-lt-of-le}
 use native.Mathlib.Numerals.{add-one}
 use native.Mathlib.Omega.{arith}
-use borrow.Author.Tests.{eq-eqb}
+use borrow.Author.Tests.{le-ltb, eq-eqb}
 use lib.ListN.{length, getD, take, drop}
 use lib.Seq.{getD-at}
 use Rattle.laws.specs.Each.{some}
@@ -19,7 +19,7 @@ use Rattle.words_rules.specs.declared.Bucket.{Bucket}
 use Rattle.words_rules.specs.Limits.{maxWidth}
 use Rattle.words_rules.specs.Words.{headWords, bucketWords, place, entries, theta, qn, qd, buckets, headOf, encodeHead, packedAt, startIn, flagIn, listedIn, start, end, span}
 use Rattle.words_rules.specs.Decoded.{withFree, decode, encode, bucketAt}
-use Rattle.words_rules.specs.Reading.{headGood, lengthFault, wordsBroken, wordFault, widthFault, classBroken, totalBroken, codesBroken, codeFault, Readable}
+use Rattle.words_rules.specs.Reading.{headGood, largeQFault, lengthFault, wordsBroken, wordFault, widthFault, classBroken, totalBroken, codesBroken, codeFault, Readable}
 use Rattle.words_rules.specs.Claims.{InRange}
 use Rattle.words_rules.proofs.DecodedLaws.{sum-with-free, decode-encode, encoded}
 use Rattle.laws.proofs.BetweenLaws.{is-within}
@@ -29,7 +29,7 @@ use Rattle.words_rules.proofs.StartLaws.{Starts, end-next, end-last, no-start-f
 use Rattle.words_rules.proofs.CodeLaws.{Room, no-width-fault, no-class-fault, no-total-fault}
 use Rattle.words_rules.proofs.EntryLaws.{part-packed}
 use Rattle.words_rules.proofs.ReadingLaws.{readable}
-use Rattle.list_rules.specs.Limits.{maxEntries, maxTheta}
+use Rattle.list_rules.specs.Limits.{maxEntries, maxTheta, maxQ}
 use Rattle.list_rules.specs.declared.Quality.{Quality}
 use Rattle.list_rules.specs.Private.Sound.{Sound}
 use Rattle.build_rules.specs.Bucket.{bucketWidths, classesFrom, bucketFrom}
@@ -157,7 +157,7 @@ module _ (q : Quality) (fs : List ℕ) (sound : Sound fs q) where
   pub span-is : (b : ℕ) → b < count → span ws b ≡ sum (bucketWidths q fs d (startOf b))
   span-is b h = omega (arith, end-is b h, start-is b h, start-step b)
 
-  -- ---- no sentence 7 to 12 is true
+  -- ---- no sentence 7, 24 or 8 to 12 is true
 
   -- the listed widths leave the free one of what the bucket spans
   listed-room : (b : ℕ) → b < count → Room (span ws b) (sum (listedIn (packedAt ws b)))
@@ -222,12 +222,13 @@ module _ (q : Quality) (fs : List ℕ) (sound : Sound fs q) where
       rises b h = omega (arith, start-step b, sum-some q fs d (startOf b) sound (omega arith) (start-below b h))
 
   pub readable-words : Readable ws
-  unfolding lengthFault wordFault widthFault codeFault
+  unfolding largeQFault lengthFault wordFault widthFault codeFault
   readable-words =
       let n = buckets-are in
       readable ws
       (record {
         head = no-head-fault ws (record { words = omega (arith, size); q-bits = q-small; head = head-good });
+        q = rw (qn-is, qd-is) (le-ltb (maxQ * q .qd) (q .qn) (sound .factor-small));
         size = ap not (eq-eqb (length ws) (headWords + bucketWords * buckets ws) (size ∙ ap (λ (b : ℕ). headWords + bucketWords * b) (sym n)));
         words = some-none (buckets ws) _ (λ b h. ap wordsBroken (packed-are b (omega arith)) ∙ encoded (bucketOf b));
         starts = no-start-fault ws starts-are;

@@ -1,4 +1,4 @@
--- What the builder answers and what the lent words are afterwards (document 01, "Building" and "When a call is turned away", 1 and 3 to 6).
+-- What the builder answers and what the lent words are afterwards (document 01, "Building" and "When a call is turned away", 1, 3, 4, 5, 24 and 6).
 -- Assumes nothing.
 use mathlib.Core.Bool.{cond}
 use mathlib.Core.List.{List, [], _∷_, _++_}

@@ -54,7 +54,7 @@ pub record ByRule (q : Quality) (fs ws : List ℕ) (b : ℕ) : Type 0 where
   -- "a bucket's total code is that of its own true count"
   pub total-of-count : bucketAt ws b .total ≡ totalCode (partSum (start ws b) (span ws b) fs)
 
--- a list, theta and q that no sentence 1 or 3 to 5 refuses
+-- a list, theta and q that none of the sentences 1, 3, 4, 5 and 24 refuses
 pub record Built (fs : List ℕ) (theta qn qd : ℕ) : Type 0 where
   -- a bucketlet of width 1 fits
   pub one-fits : (a : ℕ) → a < length fs → fitsAt (quality theta qn qd) fs a 1 ≡ true

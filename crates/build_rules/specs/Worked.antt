@@ -46,8 +46,10 @@ pub record Worked : Type 0 where
   pub not-strict : firstWidths (quality 7 3 2) (1 ∷ 7 ∷ 2 ∷ []) ≡ 2 ∷ 1 ∷ 0 ∷ 0 ∷ 0 ∷ 0 ∷ 0 ∷ 0 ∷ []
   -- a width that fits again after a failure does not count: of 4, 12, 6 width 3 fits and width 2 does not
   pub fits-again : firstWidths (quality 2 2 1) (4 ∷ 12 ∷ 6 ∷ []) ≡ 1 ∷ 2 ∷ 0 ∷ 0 ∷ 0 ∷ 0 ∷ 0 ∷ 0 ∷ []
-  -- nine words lent for nine, and eight; a fault of theta comes before that of the lent words
-  pub lent : buildFault (10 ∷ 10 ∷ 10 ∷ 10 ∷ []) 1 3 2 9 ∷ buildFault (10 ∷ 10 ∷ 10 ∷ 10 ∷ []) 1 3 2 8 ∷ buildFault (10 ∷ []) 0 3 2 0 ∷ [] ≡ 0 ∷ 6 ∷ 4 ∷ []
+  -- nine words lent for nine, and eight; a fault of theta or q comes before that of the lent words: theta 0, q 15/1
+  pub lent :
+      buildFault (10 ∷ 10 ∷ 10 ∷ 10 ∷ []) 1 3 2 9 ∷ buildFault (10 ∷ 10 ∷ 10 ∷ 10 ∷ []) 1 3 2 8 ∷ buildFault (10 ∷ []) 0 3 2 0 ∷ buildFault (10 ∷ []) 1 15 1 0 ∷ []
+      ≡ 0 ∷ 6 ∷ 4 ∷ 24 ∷ []
   -- the first bucketlet has no other limit than 4,095; where it is wider than 511 it is the free one, and else the eighth is
   pub narrow-first : limitsOf 511 ≡ 4095 ∷ 511 ∷ 511 ∷ 511 ∷ 511 ∷ 511 ∷ 511 ∷ 4095 ∷ []
   pub wide-first : limitsOf 512 ≡ 4095 ∷ 511 ∷ 511 ∷ 511 ∷ 511 ∷ 511 ∷ 511 ∷ 511 ∷ []

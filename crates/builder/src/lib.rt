@@ -20,7 +20,7 @@ pub enum Built {
 }
 
 // The histogram of a frequency list, written into the first words that are lent. It is made in an array that holds the longest one, so that its
-// length is known before a word is written. Refused with 1 or 3 to 6, it writes nothing.
+// length is known before a word is written. Refused with 1, 3, 4, 5, 24 or 6, it writes nothing.
 pub fn build(freqs: &[u32], theta: u32, qn: u32, qd: u32, out: &mut [u32]) -> Built
     ensures { λ r. ⌜ builtReply r ≡ buildReply (now (freqs .entry)) theta qn qd (length (now (out .entry))) ⌝ }
     ensures { λ r. ⌜ r ≡ builtOf (buildReply (now (freqs .entry)) theta qn qd (length (now (out .entry)))) ⌝ }

@@ -157,8 +157,8 @@ fn stored_q() {
 fn limits_of_theta_and_q() {
     case(b"q 5/4", &TENS, 1, 5, 4, answer(9));
     case(b"q 124/100", &TENS, 1, 124, 100, refusal(5));
-    case(b"q 1000/1", &TENS, 1, 1000, 1, answer(9));
-    case(b"q 1001/1", &TENS, 1, 1001, 1, refusal(5));
+    case(b"q 1000/800", &TENS, 1, 1000, 800, answer(9));
+    case(b"q 1001/800", &TENS, 1, 1001, 800, refusal(5));
     case(b"q 3/0", &TENS, 1, 3, 0, refusal(5));
     case(
         b"q of the largest numbers",
@@ -172,6 +172,20 @@ fn limits_of_theta_and_q() {
     case(b"theta 0 and q 124/100", &TENS, 0, 124, 100, refusal(4));
     case(b"theta 1,048,575", &TENS, 1048575, 3, 2, answer(9));
     case(b"theta 1,048,576", &TENS, 1048576, 3, 2, refusal(4));
+}
+
+// A larger q is taken for a slip, once its parts are within their limits.
+fn slips_in_q() {
+    case(b"q 8/1", &TENS, 1, 8, 1, answer(9));
+    case(b"q 80/10", &TENS, 1, 80, 10, answer(9));
+    case(b"q 1000/125", &TENS, 1, 1000, 125, answer(9));
+    case(b"q 9/1", &TENS, 1, 9, 1, refusal(24));
+    case(b"q 15/1", &TENS, 1, 15, 1, refusal(24));
+    case(b"q 1000/124", &TENS, 1, 1000, 124, refusal(24));
+    case(b"q 1001/1", &TENS, 1, 1001, 1, refusal(5));
+    case(b"q 9/0", &TENS, 1, 9, 0, refusal(5));
+    case(b"q 9/1 and theta 0", &TENS, 0, 9, 1, refusal(4));
+    case(b"q 9/1 and an empty list", &[], 1, 9, 1, refusal(1));
 }
 
 fn limits_of_the_list() {
@@ -217,6 +231,8 @@ fn lengths() {
     report(b"  the first word", OLD, eight[0]);
     report(b"  the last word", OLD, eight[7]);
     lent(b"no word lent", &mut [], refusal(6));
+    let slip = build(&TENS, 1, 9, 1, &mut []);
+    report(b"no word lent, and q 9/1", 24, slip.refusal);
     let mut nine = [OLD; 9];
     lent(b"nine words lent", &mut nine, answer(9));
     report(b"  the first word", 4, nine[0]);
@@ -338,6 +354,7 @@ pub(crate) fn run() {
     only_zeros();
     stored_q();
     limits_of_theta_and_q();
+    slips_in_q();
     limits_of_the_list();
     lengths();
     early_failures();

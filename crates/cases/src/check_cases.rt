@@ -122,10 +122,23 @@ fn refusals() {
         &tens_with(5, 0xBF000000),
         refused(12),
     );
+    check(b"q 8/1", &TENS, &tens_with(2, 8 * 1024 + 1), accepted());
+    check(
+        b"q 9/1, and five entries",
+        &[10; 5],
+        &tens_with(2, 9 * 1024 + 1),
+        refused(24),
+    );
     check(
         b"a large sum, and q 124/100",
         &[1073741823, 1],
         &tens_with(2, 124 * 1024 + 100),
+        refused(3),
+    );
+    check(
+        b"a large sum, and q 9/1",
+        &[1073741823, 1],
+        &tens_with(2, 9 * 1024 + 1),
         refused(3),
     );
 }

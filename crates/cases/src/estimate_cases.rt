@@ -57,6 +57,13 @@ fn refusals() {
         5,
         refusal(12),
     );
+    ask(
+        b"4 to 5 of a list with q 9/1",
+        &tens_with(2, 9 * 1024 + 1),
+        4,
+        5,
+        refusal(24),
+    );
     ask(b"an empty list", &[], 0, 0, refusal(7));
 }
 

@@ -38,6 +38,23 @@ fn heads() {
     read(b"two buckets in nine words", &tens_with(3, 2), 8);
 }
 
+fn slips_in_q() {
+    read(b"q 8/1", &tens_with(2, 8 * 1024 + 1), 0);
+    read(b"q 1000/125", &tens_with(2, 1000 * 1024 + 125), 0);
+    read(b"q 9/1", &tens_with(2, 9 * 1024 + 1), 24);
+    read(b"q 1000/124", &tens_with(2, 1000 * 1024 + 124), 24);
+    read(b"q 1001/1", &tens_with(2, 1001 * 1024 + 1), 7);
+}
+
+// 24 stands between 7 and 8.
+fn shortened_slips() {
+    let mut words = TENS_WORDS;
+    words[2] = 9 * 1024 + 1;
+    read(b"q 9/1 in three words", &words[..3], 7);
+    read(b"q 9/1 in eight words", &words[..8], 24);
+    find(b"entry 4 of four tens with q 9/1", &words, 4, 24, 0);
+}
+
 fn lengths() {
     let words = TENS_WORDS;
     let longer = [
@@ -148,6 +165,8 @@ fn again() {
 
 pub(crate) fn run() {
     heads();
+    slips_in_q();
+    shortened_slips();
     lengths();
     order();
     spans();

@@ -4,7 +4,7 @@ use list_rules::Quality;
 ghost use mathlib.Core.Path.{_≡_};
 ghost use Rattle.fit.specs.Accepted.{checkFault, qualityOf};
 
-// 1, 3 and 7 to 13: the first of these sentences that is true, else 0.
+// 1, 3, 7, 24 and 8 to 13: the first of these sentences that is true, else 0.
 pub fn check_fault(freqs: &[u32], words: &[u32]) -> u32
     ensures { λ r. ⌜ r ≡ checkFault (now (freqs .entry)) (now (words .entry)) ⌝ }
 {

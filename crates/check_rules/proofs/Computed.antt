@@ -6,7 +6,7 @@ use Rattle.laws.specs.Search.{first, largest, root}
 use Rattle.counts_rules.specs.Class.{classNumber}
 use Rattle.counts_rules.specs.Total.{middle, totalNumber, validFields}
 use Rattle.words_rules.specs.Decoded.{decode}
-use Rattle.words_rules.specs.Reading.{headGood, headFault, lengthFault, wordsBroken, wordFault, startFault, widthsBroken, widthFault, classBroken, totalBroken, codesBroken, codeFault}
+use Rattle.words_rules.specs.Reading.{headGood, headFault, largeQFault, lengthFault, wordsBroken, wordFault, startFault, widthsBroken, widthFault, classBroken, totalBroken, codesBroken, codeFault}
 use Rattle.list_rules.specs.Frequencies.{entriesFault, sumFault}
 use Rattle.fit.specs.Accepted.{mismatch}
 use Rattle.check_rules.specs.Failing.{firstFailing, rangeVerdict, startVerdict, bucketletVerdict}
@@ -14,7 +14,7 @@ use Rattle.check_rules.specs.Checking.{totalVerdict, bucketVerdict, chec
 use Rattle.check_rules.specs.Worked.{Worked}
 
 pub worked : Worked
-unfolding each some refusal first largest root classNumber middle totalNumber validFields decode headGood headFault lengthFault wordsBroken wordFault startFault widthsBroken widthFault classBroken totalBroken codesBroken codeFault entriesFault sumFault mismatch firstFailing rangeVerdict startVerdict bucketletVerdict totalVerdict bucketVerdict checkVerdict
+unfolding each some refusal first largest root classNumber middle totalNumber validFields decode headGood headFault largeQFault lengthFault wordsBroken wordFault startFault widthsBroken widthFault classBroken totalBroken codesBroken codeFault entriesFault sumFault mismatch firstFailing rangeVerdict startVerdict bucketletVerdict totalVerdict bucketVerdict checkVerdict
 worked =
     record {
       tens-taken = refl;
@@ -51,4 +51,9 @@ worked =
       no-words = refl;
       wrong-code = refl;
       other-length = refl;
+      q-8 = refl;
+      q-9 = refl;
+      q-before = refl;
+      q-no-entry = refl;
+      q-large-sum = refl;
     }

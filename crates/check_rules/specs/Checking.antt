@@ -1,4 +1,4 @@
--- What the checker answers (document 01, "Asking" and "When a call is turned away", 1, 3 and 7 to 13): it takes buckets in order and, in each,
+-- What the checker answers (document 01, "Asking" and "When a call is turned away", 1, 3, 7, 24 and 8 to 13): it takes buckets in order and, in each,
 -- bucketlets in order, then the total.
 -- Assumes nothing.
 use mathlib.Core.Bool.{cond}

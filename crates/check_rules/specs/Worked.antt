@@ -3,8 +3,8 @@
 use mathlib.Core.Path.{_≡_}
 use mathlib.Core.Bool.{true, false}
 use mathlib.Core.List.{List, [], _∷_, _++_}
-use Prim.Native.Nat.{ℕ, _*_}
-use lib.ListN.{set}
+use Prim.Native.Nat.{ℕ, _+_, _*_, _^_}
+use lib.ListN.{take, set}
 use Rattle.words_rules.specs.Worked.{tens, gaps, zeros}
 use Rattle.words_rules.specs.Words.{encodeHead}
 use Rattle.words_rules.specs.Decoded.{startWord, classWord, totalWord, widthWord}
@@ -73,6 +73,12 @@ pub record Worked : Type 0 where
   pub total-before : checkReply twos (twoBuckets 5 9 9 4) ≡ failedAnswer 3 0 2
   pub next-bucketlet : checkReply twos (twoBuckets 5 4 9 9) ≡ failedAnswer 1 2 4
   pub next-total : checkReply twos (twoBuckets 5 4 5 9) ≡ failedAnswer 3 2 4
+  -- what fits is accepted with q 8/1, and refused with q 9/1, also where a word is missing and the list is not d long; but the list's faults come first
+  pub q-8 : checkReply (10 ∷ 10 ∷ 10 ∷ 10 ∷ []) (set tens 2 (8 * 2 ^ 10 + 1)) ≡ acceptedAnswer
+  pub q-9 : checkReply (10 ∷ 10 ∷ 10 ∷ 10 ∷ []) (set tens 2 (9 * 2 ^ 10 + 1)) ≡ refusedAnswer 24
+  pub q-before : checkReply (10 ∷ []) (set (take 8 tens) 2 (9 * 2 ^ 10 + 1)) ≡ refusedAnswer 24
+  pub q-no-entry : checkReply [] (set tens 2 (9 * 2 ^ 10 + 1)) ≡ refusedAnswer 1
+  pub q-large-sum : checkReply (1073741823 ∷ 1 ∷ []) (set tens 2 (9 * 2 ^ 10 + 1)) ≡ refusedAnswer 3
   -- the list's faults come before those of the words, and 13 after 12
   pub no-entry : checkReply [] [] ≡ record { refusal = 1; accepted = false; sort = 0; start = 0; end = 0 }
   pub large-sum : checkReply (1073741823 ∷ 1 ∷ []) [] ≡ refusedAnswer 3

@@ -5,6 +5,7 @@ use mathlib.Core.Bool.{not}
 use mathlib.Core.List.{List}
 use Prim.Native.Nat.{ℕ, suc, _+_, _≤_, _<_}
 use native.Mathlib.Omega.{arith}
+use borrow.Author.Tests.{le-ltb}
 use lib.ListN.{length}
 use Rattle.laws.proofs.RefusalLaws.{numbered, passed, none-left, append-passed}
 use Rattle.laws.proofs.SumsLaws.{prefix-suc, prefix-mono, prefix-all}
@@ -32,7 +33,7 @@ module _ (fs ws : List ℕ) (e : checkFault fs ws ≡ 0) where
       let t = is-within 1 maxTheta (theta ws) (record { least = l .least-theta; most = l .most-theta }) in
       let q = is-good-q (qn ws) (qd ws) (record { num = record { least = l .least-qn; most = l .most-qn }; den = record { least = l .least-qd; most = l .most-qd }; least = l .least-q }) in
       sound-of fs (theta ws) (qn ws) (qd ws)
-      (append-passed (listSentences fs) (qualitySentences (theta ws) (qn ws) (qd ws)) refl (matching fs ws e .listed) ∙ passed _ _ (ap not t) ∙ passed _ _ (ap not q) ∙ none-left)
+      (append-passed (listSentences fs) (qualitySentences (theta ws) (qn ws) (qd ws)) refl (matching fs ws e .listed) ∙ passed _ _ (ap not t) ∙ passed _ _ (ap not q) ∙ passed _ _ (le-ltb _ _ (l .most-q)) ∙ none-left)
 
   module _ (b : ℕ) (h : b < buckets ws) where
     pub held : Holds ws b

@@ -3,7 +3,7 @@
 use Prim.Native.Nat.{ℕ, _*_, _^_, _≤_}
 use native.Mathlib.Nat.{mul-le-mul}
 use Rattle.counts_rules.specs.Limit.{limit}
-use Rattle.list_rules.specs.Limits.{maxTheta, maxQ}
+use Rattle.list_rules.specs.Limits.{maxTheta, maxQPart}
 use Rattle.words_rules.specs.Limits.{maxWidth}
 use Rattle.list_rules.specs.declared.Quality.{Quality}
 use Rattle.checker.specs.Private.Searching.{Comparable}
@@ -11,10 +11,10 @@ use Rattle.checker.specs.Private.Searching.{Comparable}
 pub record Products (q : Quality) (f x w : ℕ) : Type 0 where
   pub area : f * w ≤ limit * maxWidth
   pub theta : q .theta * w ≤ maxTheta * maxWidth
-  pub under-area : q .qd * (f * w) ≤ maxQ * (limit * maxWidth)
-  pub over-area : q .qn * (f * w) ≤ maxQ * (limit * maxWidth)
-  pub under-estimate : q .qd * x ≤ maxQ * (maxWidth * 2 ^ 31)
-  pub over-estimate : q .qn * x ≤ maxQ * (maxWidth * 2 ^ 31)
+  pub under-area : q .qd * (f * w) ≤ maxQPart * (limit * maxWidth)
+  pub over-area : q .qn * (f * w) ≤ maxQPart * (limit * maxWidth)
+  pub under-estimate : q .qd * x ≤ maxQPart * (maxWidth * 2 ^ 31)
+  pub over-estimate : q .qn * x ≤ maxQPart * (maxWidth * 2 ^ 31)
 
 pub products : (q : Quality) (f x w : ℕ) → Comparable q f x w → Products q f x w
 products q f x w c =

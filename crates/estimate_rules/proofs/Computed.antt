@@ -6,14 +6,14 @@ use Rattle.laws.specs.Search.{first, largest, root}
 use Rattle.counts_rules.specs.Class.{classNumber}
 use Rattle.counts_rules.specs.Total.{middle, totalNumber, validFields}
 use Rattle.words_rules.specs.Decoded.{decode}
-use Rattle.words_rules.specs.Reading.{headGood, headFault, lengthFault, wordsBroken, wordFault, startFault, widthsBroken, widthFault, classBroken, totalBroken, codesBroken, codeFault}
+use Rattle.words_rules.specs.Reading.{headGood, headFault, largeQFault, lengthFault, wordsBroken, wordFault, startFault, widthsBroken, widthFault, classBroken, totalBroken, codesBroken, codeFault}
 use Rattle.estimate_rules.specs.Fraction.{sumOf, rounded}
 use Rattle.estimate_rules.specs.Exact.{piece, bucketPiece, exact}
 use Rattle.estimate_rules.specs.Asking.{rangeFault, raised, estimate, estimateReply}
 use Rattle.estimate_rules.specs.Worked.{Worked}
 
 pub worked : Worked
-unfolding each some refusal first largest root classNumber middle totalNumber validFields decode headGood headFault lengthFault wordsBroken wordFault startFault widthsBroken widthFault classBroken totalBroken codesBroken codeFault sumOf rounded piece bucketPiece exact rangeFault raised estimate estimateReply
+unfolding each some refusal first largest root classNumber middle totalNumber validFields decode headGood headFault largeQFault lengthFault wordsBroken wordFault startFault widthsBroken widthFault classBroken totalBroken codesBroken codeFault sumOf rounded piece bucketPiece exact rangeFault raised estimate estimateReply
 worked =
     record {
       one-to-three = refl;
@@ -24,6 +24,7 @@ worked =
       past-end = refl;
       turned = refl;
       words-first = refl;
+      q-first = refl;
       rounded-once = refl;
       cut-and-whole = refl;
       among-empty = refl;

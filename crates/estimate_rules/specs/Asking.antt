@@ -1,4 +1,4 @@
--- What the estimator answers (document 01, "Asking" and "When a call is turned away", 7 to 12 and 14).
+-- What the estimator answers (document 01, "Asking" and "When a call is turned away", 7, 24, 8 to 12 and 14).
 -- Assumes nothing.
 use mathlib.Core.Bool.{Bool, cond, not, _&&_, _||_}
 use mathlib.Core.List.{List, [], _∷_, _++_}

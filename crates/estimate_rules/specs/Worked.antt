@@ -2,8 +2,8 @@
 -- Assumes nothing.
 use mathlib.Core.Path.{_≡_}
 use mathlib.Core.List.{List, [], _∷_}
-use Prim.Native.Nat.{ℕ}
-use lib.ListN.{take}
+use Prim.Native.Nat.{ℕ, _+_, _*_, _^_}
+use lib.ListN.{take, set}
 use Rattle.laws.specs.Reply.{answered, refused}
 use Rattle.words_rules.specs.Worked.{tens, gaps, zeros, two}
 use Rattle.estimate_rules.specs.Asking.{estimateReply}
@@ -31,6 +31,7 @@ pub record Worked : Type 0 where
   pub turned : estimateReply tens 3 2 ≡ refused 14
   -- a fault of the words comes first
   pub words-first : estimateReply (take 8 tens) 4 5 ≡ refused 8
+  pub q-first : estimateReply (set tens 2 (9 * 2 ^ 10 + 1)) 4 5 ≡ refused 24
   -- two cuts are rounded together: 4/3 and 4/3
   pub rounded-once : estimateReply thirds 2 4 ≡ answered 3
   -- a cut beside a whole bucketlet: 4/3 and 4

@@ -17,7 +17,7 @@ pub enum Asked {
     Refused(u32),
 }
 
-// 7 to 12 and 14: the first of these sentences that is true of a list and a range, else 0.
+// 7, 24, 8 to 12 and 14: the first of these sentences that is true of a list and a range, else 0.
 pub fn ask_fault(words: &[u32], x: u32, y: u32) -> u32
     ensures { λ r. ⌜ r ≡ askFault (now (words .entry)) x y ⌝ }
 {

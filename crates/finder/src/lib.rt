@@ -15,7 +15,7 @@ pub enum Place {
     Refused(u32),
 }
 
-// The number of the first sentence of 7 to 12 and 15 that is true of a list and an entry, or 0 where there is none.
+// The number of the first sentence of 7, 24, 8 to 12 and 15 that is true of a list and an entry, or 0 where there is none.
 pub fn find_fault(words: &[u32], entry: u32) -> u32
     ensures { λ r. ⌜ r ≡ findFault (now (words .entry)) entry ⌝ }
 {

@@ -15,10 +15,13 @@ use Rattle.words_rules.specs.Words.{buckets, start, span}
 use Rattle.words_rules.specs.Decoded.{decode, classAt, bucketAt, bucketletStart, widthAt, numberAt}
 use Rattle.words_rules.proofs.Proved.{histogram}
 use Rattle.fit.specs.Accepted.{qualityOf, accepted}
-use Rattle.fit.specs.Claims.{NoClass, Zeros}
+use Rattle.fit.specs.Claims.{Factors, NoClass, Zeros}
 use Rattle.fit.proofs.FitLaws.{Near, says-near}
 use Rattle.fit.proofs.ZeroLaws.{both-0, count-0, number-0, none-counted}
 use Rattle.fit.proofs.AcceptedLaws.{Fitting, fitting}
+
+pub factors : Factors
+factors = record { most-q = λ fs ws t. histogram .limits ws (fitting fs ws t .readable) .most-q }
 
 module _ (fs ws : List ℕ) (t : accepted fs ws ≡ true) (b : ℕ) (h : b < buckets ws) where
   ok : Fitting fs ws

@@ -1,4 +1,5 @@
--- When a histogram is accepted for a list (document 01, "What fits", its last sentences): said of the words and the frequencies alone.
+-- When a histogram is accepted for a list (document 01, "What fits", its last sentences; 24: document 02, request v): said of the words and the
+-- frequencies alone.
 -- Assumes nothing.
 use mathlib.Core.Bool.{Bool, not, _&&_, _||_}
 use mathlib.Core.List.{List, [], _∷_, _++_}
@@ -21,6 +22,7 @@ use Rattle.list_rules.specs.Frequencies.{listSentences}
 unfoldable pub mismatch : List ℕ → List ℕ → Bool
 mismatch fs ws = not (eqb (length fs) (entries ws))
 
+-- 1 and 3, then 7, 24 and 8 to 12, then 13
 abbrev pub checkSentences : List ℕ → List ℕ → List Sentence
 checkSentences fs ws = listSentences fs ++ readSentences ws ++ (record { number = 13; holds = mismatch fs ws } ∷ [])
 

@@ -1,15 +1,20 @@
--- What is claimed of 0 and of what is accepted (document 02, request iv); proofs/Proved.antt proves it.
+-- What is claimed of 0 and of what is accepted (document 02, requests iv and v); proofs/Proved.antt proves it.
 -- Assumes nothing.
 use mathlib.Core.Path.{_≡_}
 use mathlib.Core.Bool.{true}
 use mathlib.Core.List.{List}
 use Prim.Native.Nat.{ℕ, _*_, _≤_, _<_}
 use Rattle.laws.specs.Sums.{partSum}
-use Rattle.words_rules.specs.Words.{buckets}
+use Rattle.words_rules.specs.Words.{qn, qd, buckets}
 use Rattle.words_rules.specs.Decoded.{classAt, bucketAt, bucketletStart, widthAt}
 use Rattle.list_rules.specs.declared.Quality.{Quality}
+use Rattle.list_rules.specs.Limits.{maxQ}
 use Rattle.fit.specs.Fit.{near}
 use Rattle.fit.specs.Accepted.{accepted}
+
+-- "accepted now asks that 24 names no fault either"
+pub record Factors : Type 0 where
+  pub most-q : (fs ws : List ℕ) → accepted fs ws ≡ true → qn ws ≤ maxQ * qd ws
 
 -- bucket b has eight classes 0
 abbrev pub NoClass : List ℕ → ℕ → Type 0

@@ -1,11 +1,14 @@
--- Ranges and bucketlets on both sides of each bound, which tell the natural missteps apart.
+-- Ranges, bucketlets and histograms on both sides of each bound, which tell the natural missteps apart.
 -- Assumes nothing.
 use mathlib.Core.Path.{_≡_}
 use mathlib.Core.Bool.{true, false}
 use mathlib.Core.List.{[], _∷_}
+use Prim.Native.Nat.{_+_, _*_, _^_}
+use lib.ListN.{set}
+use Rattle.words_rules.specs.Worked.{tens}
 use Rattle.list_rules.specs.Quality.{quality}
 use Rattle.fit.specs.Fit.{near, fits, bucketletFits}
-use Rattle.fit.specs.Accepted.{totalGood}
+use Rattle.fit.specs.Accepted.{totalGood, accepted}
 
 pub record Worked : Type 0 where
   -- a factor of 3/2 itself is near, either way, and a little more is not
@@ -25,3 +28,7 @@ pub record Worked : Type 0 where
       bucketletFits (quality 5 3 2) (0 ∷ 0 ∷ 0 ∷ []) 0 3 0 ∷ bucketletFits (quality 5 3 2) (0 ∷ 0 ∷ 0 ∷ []) 0 3 1
       ∷ bucketletFits (quality 5 3 2) (0 ∷ 1 ∷ 0 ∷ []) 0 3 0 ∷ bucketletFits (quality 5 3 2) (0 ∷ 5 ∷ 0 ∷ []) 0 3 4 ∷ []
       ≡ true ∷ false ∷ false ∷ true ∷ []
+  -- words that fit are accepted with q 8/1, and not with q 9/1
+  pub q-most :
+      accepted (10 ∷ 10 ∷ 10 ∷ 10 ∷ []) (set tens 2 (8 * 2 ^ 10 + 1)) ∷ accepted (10 ∷ 10 ∷ 10 ∷ 10 ∷ []) (set tens 2 (9 * 2 ^ 10 + 1)) ∷ []
+      ≡ true ∷ false ∷ []

@@ -7,6 +7,7 @@ use Prim.Native.Nat.{ℕ, zero, suc, _≤_}
 use native.Mathlib.Omega.{arith}
 use borrow.Author.Tests.{leb-true, eq-eqb, ne-eqb}
 use lib.Dec.{leb, eqb}
+use lib.ListN.{drop}
 use Rattle.laws.specs.Refusal.{Sentence, refusal}
 use Rattle.laws.proofs.Tests.{both-left, both-right}
 
@@ -18,6 +19,10 @@ numbered (s ∷ ss) = leb 1 (s .number) && numbered ss
 pub none-left : refusal [] ≡ 0
 unfolding refusal
 none-left = refl
+
+-- the refusal is that of the sentences after the first n
+abbrev pub Past : ℕ → List Sentence → Type 0
+Past n ss = refusal ss ≡ refusal (drop n ss)
 
 module _ (s : Sentence) (ss : List Sentence) where
   pub refused : s .holds ≡ true → refusal (s ∷ ss) ≡ s .number

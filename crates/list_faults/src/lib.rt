@@ -1,11 +1,11 @@
-// What a frequency list, theta and q are held to: sentences 1 and 3 to 5.
+// What a frequency list, theta and q are held to: sentences 1, 3, 4, 5 and 24.
 
 ghost use mathlib.Core.Path.{_≡_};
 ghost use Prim.Native.Nat.{_≤_};
 ghost use lib.ListN.{length};
 ghost use Rattle.laws.specs.Sums.{sum};
 ghost use Rattle.laws.specs.Refusal.{refusal};
-ghost use Rattle.list_rules.specs.Limits.{maxEntries, entriesGood, thetaGood, qGood};
+ghost use Rattle.list_rules.specs.Limits.{maxEntries, entriesGood, thetaGood, qGood, qLarge};
 ghost use Rattle.list_rules.specs.Frequencies.{listFault};
 ghost use Rattle.list_rules.specs.Quality.{qualitySentences, inputSentences};
 
@@ -33,6 +33,13 @@ pub fn q_good(qn: u32, qd: u32) -> bool
         return false;
     }
     5 * qd <= 4 * qn
+}
+
+// Whether q is above 8: builder and readers both ask here. 8 times any qd has room in 64 bits.
+pub fn q_large(qn: u32, qd: u32) -> bool
+    ensures { λ r. ⌜ r ≡ qLarge qn qd ⌝ }
+{
+    8 * arithmetic::wide(qd) < arithmetic::wide(qn)
 }
 
 // The sum of at most 65,536 frequencies.
@@ -65,7 +72,7 @@ pub fn list_fault(freqs: &[u32]) -> u32
     0
 }
 
-// 4 or 5 if that sentence is true of theta and q and none before it is, else 0.
+// 4, 5 or 24 if that sentence is true of theta and q and none before it is, else 0.
 pub fn quality_fault(theta: u32, qn: u32, qd: u32) -> u32
     ensures { λ r. ⌜ r ≡ refusal (qualitySentences theta qn qd) ⌝ }
 {
@@ -75,10 +82,13 @@ pub fn quality_fault(theta: u32, qn: u32, qd: u32) -> u32
     if !q_good(qn, qd) {
         return 5;
     }
+    if q_large(qn, qd) {
+        return 24;
+    }
     0
 }
 
-// 1 and 3 to 5: the first of these sentences that is true of what the builder is given, else 0.
+// 1, 3, 4, 5 and 24: the first of these sentences that is true of what the builder is given, else 0.
 pub fn input_fault(freqs: &[u32], theta: u32, qn: u32, qd: u32) -> u32
     ensures { λ r. ⌜ r ≡ refusal (inputSentences (now (freqs .entry)) theta qn qd) ⌝ }
 {

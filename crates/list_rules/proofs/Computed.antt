@@ -6,4 +6,4 @@ use Rattle.list_rules.specs.Worked.{Worked}
 
 pub worked : Worked
 unfolding refusal entriesFault sumFault
-worked = record { entries = refl; theta = refl; least-q = refl; q-parts = refl; zeros = refl; sums = refl; order = refl }
+worked = record { entries = refl; theta = refl; least-q = refl; q-parts = refl; most-q = refl; zeros = refl; sums = refl; order = refl; slips = refl }

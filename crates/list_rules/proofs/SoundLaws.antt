@@ -1,8 +1,8 @@
--- A list and a quality of which no sentence 1 or 3 to 5 is true are sound.
+-- A list and a quality of which none of the sentences 1, 3, 4, 5 and 24 is true are sound.
 -- Assumes nothing.
 use mathlib.Core.Path.{_≡_, refl}
 use mathlib.Core.List.{List}
-use Prim.Native.Nat.{ℕ}
+use Prim.Native.Nat.{ℕ, _*_}
 use borrow.Author.Tests.{ltb-false, not-false}
 use lib.ListN.{length}
 use Rattle.laws.specs.Refusal.{refusal}
@@ -11,7 +11,7 @@ use Rattle.laws.proofs.RefusalLaws.{numbered, none-true}
 use Rattle.counts_rules.specs.Limit.{limit}
 use Rattle.laws.proofs.BetweenLaws.{within}
 use Rattle.list_rules.proofs.LimitLaws.{good-q}
-use Rattle.list_rules.specs.Limits.{maxEntries, maxTheta}
+use Rattle.list_rules.specs.Limits.{maxEntries, maxTheta, maxQ}
 use Rattle.list_rules.specs.Frequencies.{entriesFault, sumFault}
 use Rattle.list_rules.specs.Private.Sound.{Sound}
 use Rattle.list_rules.specs.Quality.{quality, inputSentences}
@@ -33,4 +33,5 @@ sound-of fs theta qn qd e =
       qd-some = f .den .least;
       qd-small = f .den .most;
       factor = f .least;
+      factor-small = ltb-false (maxQ * qd) qn (n .1 .1 .1 .1 .0);
     }

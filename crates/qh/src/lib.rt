@@ -118,7 +118,7 @@ pub extern "C" fn qh_number_of_total(code: u32) -> QhCoded
     meant(counts::number_of_total(code))
 }
 
-// Writes the histogram into the first words that are lent and answers how many they are; refused with 1 or 3 to 6, it writes nothing.
+// Writes the histogram into the first words that are lent and answers how many they are; refused with 1, 3, 4, 5, 24 or 6, it writes nothing.
 #[no_mangle]
 pub extern "C" fn qh_build(freqs: &[u32], theta: u32, qn: u32, qd: u32, out: &mut [u32]) -> QhBuilt
     ensures { λ r. ⌜ builtOut r ≡ buildReply (now (freqs .entry)) theta qn qd (length (now (out .entry))) ⌝ }
@@ -160,7 +160,7 @@ fn failed(failing: Failing) -> QhVerdict
     answer(0, 0, number_of(sort), failing.start, failing.end)
 }
 
-// Whether a histogram is accepted for a list, and else what fails first; refused with 1, 3 or 7 to 13.
+// Whether a histogram is accepted for a list, and else what fails first; refused with 1, 3, 7, 24 or 8 to 13.
 #[no_mangle]
 pub extern "C" fn qh_check(freqs: &[u32], words: &[u32]) -> QhVerdict
     ensures { λ r. ⌜ r ≡ verdictStruct (checkReply (now (freqs .entry)) (now (words .entry))) ⌝ }
@@ -172,7 +172,7 @@ pub extern "C" fn qh_check(freqs: &[u32], words: &[u32]) -> QhVerdict
     }
 }
 
-// The estimated count of the entries from x up to y, without y; refused with 7 to 12 and 14.
+// The estimated count of the entries from x up to y, without y; refused with 7, 24, 8 to 12 or 14.
 #[no_mangle]
 pub extern "C" fn qh_estimate(words: &[u32], x: u32, y: u32) -> QhEstimate
     ensures { λ r. ⌜ estimateOut r ≡ estimateReply (now (words .entry)) x y ⌝ }
@@ -189,7 +189,7 @@ pub extern "C" fn qh_estimate(words: &[u32], x: u32, y: u32) -> QhEstimate
     }
 }
 
-// Where in the list the words of the entry's bucket begin; refused with 7 to 12 and 15.
+// Where in the list the words of the entry's bucket begin; refused with 7, 24, 8 to 12 or 15.
 #[no_mangle]
 pub extern "C" fn qh_find(words: &[u32], entry: u32) -> QhFound
     ensures { λ r. ⌜ foundOut r ≡ findReply (now (words .entry)) entry ⌝ }

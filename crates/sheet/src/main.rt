@@ -81,7 +81,13 @@ fn say_refused(number: u32, line: usize) {
         5 => {
             say(b"sheet: q is outside its limits.\n");
             say(
-                b"It is qn/qd, the second and the third number: each 1 to 1,000, and q at least 5/4.\n",
+                b"It is qn/qd, the second and the third number: each 1 to 1,000, and q from 5/4 to 8.\n",
+            );
+        }
+        24 => {
+            say(b"sheet: q is above 8.\n");
+            say(
+                b"It is qn/qd, the second and the third number: qn may be at most 8 times qd. For 1.5 they are 15 and 10, or 3 and 2.\n",
             );
         }
         18 => {

@@ -178,11 +178,11 @@ room fs theta qn qd h e =
     record { readable = b .readable; short = h; few = omega (arith, h, b .few) }
 
 -- a refusal is one of the sentences' numbers
-abbrev pub upTo : ℕ → List Sentence → Bool
+abbrev upTo : ℕ → List Sentence → Bool
 upTo m [] = true
 upTo m (s ∷ ss) = leb (s .number) m && upTo m ss
 
-pub refusal-most : (m : ℕ) (ss : List Sentence) → upTo m ss ≡ true → refusal ss ≤ m
+refusal-most : (m : ℕ) (ss : List Sentence) → upTo m ss ≡ true → refusal ss ≤ m
 unfolding refusal
 refusal-most m [] h = omega arith
 refusal-most m (s ∷ ss) h = go (s .holds) (refusal-most m ss (both-right (leb (s .number) m) (upTo m ss) h))
@@ -214,7 +214,7 @@ module _ (fs : List ℕ) (theta qn qd : ℕ) where
 
       some : eqb fault 0 ≡ false → length (listSheet fs theta qn qd) ≤ maxSheet
       some t =
-          let most = refused-short fault (omega (arith, refusal-most 5 (inputSentences fs theta qn qd) refl)) in
+          let most = refused-short fault (omega (arith, refusal-most 24 (inputSentences fs theta qn qd) refl)) in
           omega (arith, ap length (list-refused (eqb-false fault 0 t)), most .within)
 
 -- ---- lent bytes

@@ -36,7 +36,7 @@ bucketPart ws b =
 unfoldable pub histogramSheet : List ℕ → List ℕ
 histogramSheet ws = headLine (entries ws) (theta ws) (qn ws) (qd ws) (buckets ws) ++ joined (buckets ws) (bucketPart ws)
 
--- the histogram of a list, or the number that the builder refuses it with: 1 or 3 to 5, since there is room for its words
+-- the histogram of a list, or the number that the builder refuses it with: 1, 3, 4, 5 or 24, since there is room for its words
 unfoldable pub listSheet : List ℕ → ℕ → ℕ → ℕ → List ℕ
 listSheet fs theta qn qd =
     let fault = refusal (inputSentences fs theta qn qd) in
@@ -46,7 +46,7 @@ listSheet fs theta qn qd =
 unfoldable pub numbersSheet : List ℕ → List ℕ
 numbersSheet ns = listSheet (drop 3 ns) (getD ns 0 0) (getD ns 1 0) (getD ns 2 0)
 
--- 18: the input is not as described; then 1 and 3 to 5, as the builder tests its numbers
+-- 18: the input is not as described; then 1, 3, 4, 5 and 24, as the builder tests its numbers
 abbrev pub sheetSentences : List ℕ → List Sentence
 sheetSentences input =
     let ns = numbers input in

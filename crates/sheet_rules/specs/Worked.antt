@@ -19,11 +19,14 @@ pub record Worked : Type 0 where
   pub zeros :
       sheet (ascii "1\n3\n2\n0\n0\n0\n")
       ≡ ascii "codes 3 theta 1 q 3/2 buckets 1\n" ++ ascii "bucket 0 3 total 0 0\n" ++ ascii "0 3 code 0 count 0\n"
-  -- 18 comes before every other number, then 3 before 4 and 5
+  -- 18 comes before every other number, then 3 before 4 and 5, and 5 before 24; 15/1 is a slip for 15/10
   pub sum : sheet (ascii "0\n0\n0\n1073741823\n1\n") ≡ ascii "refused 3\n"
   pub theta : sheet (ascii "0\n0\n0\n1\n") ≡ ascii "refused 4\n"
   pub q : sheet (ascii "1\n124\n100\n1\n") ≡ ascii "refused 5\n"
+  pub q-part : sheet (ascii "1\n1001\n1\n1\n") ≡ ascii "refused 5\n"
+  pub slip : sheet (ascii "1\n15\n1\n1\n100\n") ≡ ascii "refused 24\n"
   pub no-list : sheet (ascii "1\n3\n2\n") ≡ ascii "refused 18\n"
+  pub slip-no-list : sheet (ascii "1\n15\n1\n") ≡ ascii "refused 18\n"
   pub no-input : sheet [] ≡ ascii "refused 18\n"
   pub not-ended : asDescribed (ascii "1\n3\n2\n1") ≡ false
   pub empty-line : asDescribed (ascii "1\n3\n2\n1\n\n") ≡ false
@@ -38,6 +41,7 @@ pub record Worked : Type 0 where
   pub taken : sheetFault (ascii "1\n3\n2\n1\n100\n") ≡ 0
   pub sum-fault : sheetFault (ascii "0\n0\n0\n1073741824\n") ≡ 3
   pub theta-fault : sheetFault (ascii "0\n0\n0\n1\n") ≡ 4
+  pub q-fault : sheetFault (ascii "1\n1000\n124\n1\n") ≡ 24
   pub input-fault : sheetFault (ascii "1\n3\n2\n1,000\n") ≡ 18
   pub comma-line : faultLine (ascii "1\n3\n2\n1,000\n5\n") ≡ 4
   pub heading-line : faultLine (ascii "theta\n1\n3\n2\n1\n") ≡ 1

@@ -25,7 +25,7 @@ use Rattle.sheet_rules.specs.Input.{asDescribed, numbers, faultLine}
 use Rattle.sheet_rules.specs.Lines.{refusedLine}
 use Rattle.sheet_rules.specs.Sheet.{histogramSheet, listSheet, numbersSheet, sheetFault, sheet, filled}
 use Rattle.sheet_rules.specs.Private.Room.{Roomy}
-use Rattle.sheet_rules.proofs.SheetLaws.{room, refusal-most, list-printed, list-refused, sets-filled}
+use Rattle.sheet_rules.proofs.SheetLaws.{room, list-printed, list-refused, sets-filled}
 use Rattle.sheet_rules.proofs.Proved.{sheet-refused, sheet-read, numbers-many, fault-refused, fault-read}
 use Rattle.sheet_input.specs.declared.Numbers.{Numbers}
 use Rattle.sheet_input.specs.Numbers.{numbersOf, inputNumbers}
@@ -92,9 +92,6 @@ module _ (fs : List ℕ) (theta qn qd : ℕ) (short : length fs ≤ maxFrequenci
     pub refused-fault : number ≡ fault
     refused-fault = ap (λ (r : Reply). r .refusal) e ∙ reply-refusal
 
-    pub refused-number : number ≤ 5
-    refused-number = omega (arith, refused-fault, refusal-most 5 (inputSentences fs theta qn qd) refl)
-
     -- which is not 0: with no fault there are words
     is-fault : fault ≡ 0 → ⊥
     is-fault z =
@@ -154,15 +151,6 @@ module _ (input : List ℕ) (r : Numbers) (e : r ≡ inputNumbers input) where
   by-described : (t : Bool) → asDescribed input ≡ t → r ≡ cond t (numbersOf 0 0 (numbers input)) (numbersOf 18 (faultLine input) [])
   unfolding inputNumbers
   by-described t d = e ∙ ap (λ (x : Bool). cond x (numbersOf 0 0 (numbers input)) (numbersOf 18 (faultLine input) [])) d
-
-  pub refused-small : r .refusal ≤ 18
-  refused-small = ⊎-elim described not (tested (asDescribed input))
-    where
-      described : asDescribed input ≡ true → r .refusal ≤ 18
-      described d = omega (arith, ap (λ (x : Numbers). x .refusal) (by-described true d))
-
-      not : asDescribed input ≡ false → r .refusal ≤ 18
-      not d = omega (arith, ap (λ (x : Numbers). x .refusal) (by-described false d))
 
   module _ (z : r .refusal ≡ 0 → ⊥) where
     not-described : asDescribed input ≡ false

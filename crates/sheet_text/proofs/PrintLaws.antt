@@ -2,7 +2,7 @@
 -- Assumes nothing.
 use mathlib.Core.Path.{_≡_, refl, sym, ap, _∙_, subst}
 use mathlib.Core.List.{List, [], _++_}
-use Prim.Native.Nat.{ℕ, suc, _+_, _*_, _≤_, _<_}
+use Prim.Native.Nat.{ℕ, suc, _+_, _*_, _^_, _≤_, _<_}
 use native.Mathlib.Omega.{arith}
 use lib.ListN.{length, take, length-append}
 use lib.Seq.{sets}
@@ -55,8 +55,8 @@ pub line-room : {text : List ℕ} {a : ℕ} (at : ℕ) (l : Line) → l ≡ line
 line-room {text} at l e s h r = (omega (arith, line-length l text e, s .within), omega (arith, line-length l text e, s .within))
 
 -- a refusal's line has room
-pub refused-room : (l : Line) (number : ℕ) → l ≡ lineOf (refusedLine number) → number ≤ 18 → (l .length ≤ lineBytes) × (0 + l .length ≤ sheetBytes)
-refused-room l number e h = line-room 0 l e (refused-short number (omega arith)) (omega arith) (omega arith)
+pub refused-room : (l : Line) (number : ℕ) → l ≡ lineOf (refusedLine number) → number < 10 ^ 10 → (l .length ≤ lineBytes) × (0 + l .length ≤ sheetBytes)
+refused-room l number e h = line-room 0 l e (refused-short number h) (omega arith) (omega arith)
 
 -- ---- bucketlets
 

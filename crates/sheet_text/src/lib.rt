@@ -28,7 +28,6 @@ pub struct Printed {
 
 // The line of a refusal.
 fn put_refused(number: u32, line: usize, out: &mut [u8; SHEET_BYTES]) -> Printed
-    requires { ⌜ number ≤ 18 ⌝ }
     ensures { λ r. ⌜ Answered (now (out .entry)) (now (out .exit)) r number line (refusedLine number) ⌝ }
 {
     Printed {

@@ -1,11 +1,11 @@
-// Whether a list of words is a histogram: sentences 7 to 12, each tested over all buckets before the next.
+// Whether a list of words is a histogram: sentences 7, 24 and 8 to 12, each tested over all buckets before the next.
 
 use words_rules::BUCKET_WORDS;
 use words_rules::HEAD_WORDS;
 ghost use mathlib.Core.Path.{_≡_};
 ghost use Rattle.laws.specs.Each.{some};
 ghost use Rattle.words_rules.specs.Words.{buckets};
-ghost use Rattle.words_rules.specs.Reading.{headFault, lengthFault, wordFault, startFault, widthFault, codeFault, readFault};
+ghost use Rattle.words_rules.specs.Reading.{headFault, largeQFault, lengthFault, wordFault, startFault, widthFault, codeFault, readFault};
 ghost use Rattle.words_reading.specs.Private.Testing.{broken};
 
 // 7, from the length and the head words alone. Of the third only bits 19 to 0 may be set.
@@ -19,6 +19,14 @@ fn head_fault(words: &[u32]) -> bool
         return true;
     }
     !words_faults::head_good(words::head_at(words))
+}
+
+// 24, from the head words alone.
+fn large_q_fault(words: &[u32]) -> bool
+    ensures { λ r. ⌜ r ≡ largeQFault (now (words .entry)) ⌝ }
+{
+    let head = words::head_at(words);
+    list_faults::q_large(head.qn, head.qd)
 }
 
 // 8
@@ -108,12 +116,15 @@ fn code_fault(words: &[u32]) -> bool
     has_broken(words, Tested::Codes)
 }
 
-// The number of the first sentence of 7 to 12 that is true of a list, or 0 where it is a histogram.
+// The number of the first sentence of 7, 24 and 8 to 12 that is true of a list, or 0 where it is a histogram.
 pub fn read_fault(words: &[u32]) -> u32
     ensures { λ r. ⌜ r ≡ readFault (now (words .entry)) ⌝ }
 {
     if head_fault(words) {
         return 7;
+    }
+    if large_q_fault(words) {
+        return 24;
     }
     if length_fault(words) {
         return 8;

@@ -6,7 +6,7 @@ use Rattle.laws.specs.Refusal.{refusal}
 use Rattle.laws.specs.Search.{first}
 use Rattle.counts_rules.specs.Total.{validFields}
 use Rattle.words_rules.specs.Decoded.{decode, encode}
-use Rattle.words_rules.specs.Reading.{headGood, headFault, lengthFault, wordsBroken, wordFault, startFault, widthsBroken, widthFault, classBroken, totalBroken, codesBroken, codeFault}
+use Rattle.words_rules.specs.Reading.{headGood, headFault, largeQFault, lengthFault, wordsBroken, wordFault, startFault, widthsBroken, widthFault, classBroken, totalBroken, codesBroken, codeFault}
 use Rattle.words_rules.specs.Finding.{bucketOf, findReply, bucketletOf}
 use Rattle.words_rules.specs.Worked.{Decoding, Faults, Found}
 
@@ -26,7 +26,7 @@ decoding =
     }
 
 pub faults : Faults
-unfolding each some refusal validFields decode headGood headFault lengthFault wordsBroken wordFault startFault widthsBroken widthFault classBroken totalBroken codesBroken codeFault
+unfolding each some refusal validFields decode headGood headFault largeQFault lengthFault wordsBroken wordFault startFault widthsBroken widthFault classBroken totalBroken codesBroken codeFault
 faults =
     record {
       readable = refl;
@@ -37,6 +37,8 @@ faults =
       q-bits = refl;
       q-limits = refl;
       q-least = refl;
+      q-most = refl;
+      q-order = refl;
       bucket-limits = refl;
       lengths = refl;
       kinds = refl;
@@ -50,5 +52,5 @@ faults =
     }
 
 pub found : Found
-unfolding each some refusal validFields decode headGood headFault lengthFault wordsBroken wordFault startFault widthsBroken widthFault classBroken totalBroken codesBroken codeFault bucketOf findReply bucketletOf first
+unfolding each some refusal validFields decode headGood headFault largeQFault lengthFault wordsBroken wordFault startFault widthsBroken widthFault classBroken totalBroken codesBroken codeFault bucketOf findReply bucketletOf first
 found = record { buckets-of = refl; bucketlets-of = refl; first = refl; second = refl; faults = refl; refused = refl; places = refl }

@@ -1,11 +1,11 @@
--- What is known of a readable list (specs/Claims.antt): sentences 7 to 12 are false, which says what the files beside this one draw from it.
+-- What is known of a readable list (specs/Claims.antt): sentences 7, 24 and 8 to 12 are false, which says what the files beside this one draw from it.
 -- Assumes nothing.
 use mathlib.Core.Path.{_≡_, refl}
-use mathlib.Core.Bool.{true, false}
+use mathlib.Core.Bool.{false}
 use mathlib.Core.List.{List}
 use Prim.Native.Nat.{ℕ, zero, suc, _+_, _^_, _≤_, _<_}
 use native.Mathlib.Omega.{arith}
-use borrow.Author.Tests.{eqb-true, not-false}
+use borrow.Author.Tests.{ltb-false, eqb-true, not-false}
 use Rattle.laws.specs.Each.{some}
 use Rattle.laws.specs.Refusal.{refusal}
 use Rattle.laws.specs.Sums.{sum}
@@ -14,7 +14,7 @@ use Rattle.laws.proofs.RefusalLaws.{numbered, none-true}
 use Rattle.laws.proofs.Tests.{neither-left, neither-right}
 use Rattle.words_rules.specs.Words.{word, kind, entries, theta, qn, qd, buckets, headOf, packedAt, startIn, listedIn, start, end, span}
 use Rattle.words_rules.specs.Decoded.{classAt, bucketAt, widthAt}
-use Rattle.words_rules.specs.Reading.{headFault, lengthFault, wordFault, startFault, widthsBroken, widthFault, classBroken, totalBroken, codesBroken, codeFault, readSentences, readFault, Readable}
+use Rattle.words_rules.specs.Reading.{headFault, largeQFault, lengthFault, wordFault, startFault, widthsBroken, widthFault, classBroken, totalBroken, codesBroken, codeFault, readSentences, Readable}
 use Rattle.words_rules.specs.Claims.{HeadLimits, Holds}
 use Rattle.words_rules.proofs.DecodedLaws.{decoded, decoded-sum, decoded-width}
 use Rattle.laws.proofs.BetweenLaws.{within}
@@ -27,6 +27,7 @@ use Rattle.list_rules.specs.Limits.{maxEntries, maxTheta}
 
 pub record NoFault (ws : List ℕ) : Type 0 where
   pub head : headFault ws ≡ false
+  pub q : largeQFault ws ≡ false
   pub size : lengthFault ws ≡ false
   pub words : wordFault ws ≡ false
   pub starts : startFault ws ≡ false
@@ -37,41 +38,14 @@ pub no-fault : (ws : List ℕ) → Readable ws → NoFault ws
 unfolding numbered
 no-fault ws r =
     let f = none-true (readSentences ws) refl r in
-    record { head = f .0; size = f .1 .0; words = f .1 .1 .0; starts = f .1 .1 .1 .0; widths = f .1 .1 .1 .1 .0; codes = f .1 .1 .1 .1 .1 .0 }
+    record { head = f .0; q = f .1 .0; size = f .1 .1 .0; words = f .1 .1 .1 .0; starts = f .1 .1 .1 .1 .0; widths = f .1 .1 .1 .1 .1 .0; codes = f .1 .1 .1 .1 .1 .1 .0 }
 
--- the answer at each sentence that is true where those before it are not
-module _ (ws : List ℕ) where
-  pub fault-7 : headFault ws ≡ true → readFault ws ≡ 7
-  unfolding refusal
-  fault-7 t = simp t
-
-  pub fault-8 : headFault ws ≡ false → lengthFault ws ≡ true → readFault ws ≡ 8
-  unfolding refusal
-  fault-8 f₇ t = simp (f₇, t)
-
-  pub fault-9 : headFault ws ≡ false → lengthFault ws ≡ false → wordFault ws ≡ true → readFault ws ≡ 9
-  unfolding refusal
-  fault-9 f₇ f₈ t = simp (f₇, f₈, t)
-
-  pub fault-10 : headFault ws ≡ false → lengthFault ws ≡ false → wordFault ws ≡ false → startFault ws ≡ true → readFault ws ≡ 10
-  unfolding refusal
-  fault-10 f₇ f₈ f₉ t = simp (f₇, f₈, f₉, t)
-
-  pub fault-11 : headFault ws ≡ false → lengthFault ws ≡ false → wordFault ws ≡ false → startFault ws ≡ false → widthFault ws ≡ true → readFault ws ≡ 11
-  unfolding refusal
-  fault-11 f₇ f₈ f₉ f₁₀ t = simp (f₇, f₈, f₉, f₁₀, t)
-
-  pub fault-12 : headFault ws ≡ false → lengthFault ws ≡ false → wordFault ws ≡ false → startFault ws ≡ false → widthFault ws ≡ false → codeFault ws ≡ true
-      → readFault ws ≡ 12
-  unfolding refusal
-  fault-12 f₇ f₈ f₉ f₁₀ f₁₁ t = simp (f₇, f₈, f₉, f₁₀, f₁₁, t)
-
-  pub readable : NoFault ws → Readable ws
-  unfolding refusal
-  readable f = simp (f .head, f .size, f .words, f .starts, f .widths, f .codes)
+pub readable : (ws : List ℕ) → NoFault ws → Readable ws
+unfolding refusal
+readable ws f = simp (f .head, f .q, f .size, f .words, f .starts, f .widths, f .codes)
 
 pub limits : (ws : List ℕ) → NoFault ws → HeadLimits ws
-unfolding lengthFault
+unfolding largeQFault lengthFault
 limits ws f =
     let words = head-words ws (f .head) in
     let h = good-head (headOf ws) (words .head) in
@@ -91,6 +65,7 @@ limits ws f =
       least-qd = q .den .least;
       most-qd = q .den .most;
       least-q = q .least;
+      most-q = ltb-false _ _ (f .q);
       some-buckets = n .least;
       most-buckets = n .most;
     }

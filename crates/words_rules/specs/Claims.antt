@@ -11,7 +11,7 @@ use Rattle.counts_rules.specs.Form.{form, usedClass}
 use Rattle.counts_rules.specs.Total.{validCode}
 use Rattle.words_rules.specs.declared.Head.{Head}
 use Rattle.words_rules.specs.declared.Bucket.{Bucket}
-use Rattle.list_rules.specs.Limits.{maxEntries, maxTheta, maxQ}
+use Rattle.list_rules.specs.Limits.{maxEntries, maxTheta, maxQPart, maxQ}
 use Rattle.words_rules.specs.Limits.{maxListed, maxWidth}
 use Rattle.words_rules.specs.Words.{headWords, bucketWords, word, kind, entries, theta, qn, qd, buckets, headOf, encodeHead, packedAt, startIn, listedIn, start, end, span}
 use Rattle.words_rules.specs.Decoded.{decode, encode, listedAt, classAt, bucketAt, bucketletStart, bucketletEnd, widthAt}
@@ -52,10 +52,11 @@ pub record HeadLimits (ws : List ℕ) : Type 0 where
   pub least-theta : 1 ≤ theta ws
   pub most-theta : theta ws ≤ maxTheta
   pub least-qn : 1 ≤ qn ws
-  pub most-qn : qn ws ≤ maxQ
+  pub most-qn : qn ws ≤ maxQPart
   pub least-qd : 1 ≤ qd ws
-  pub most-qd : qd ws ≤ maxQ
+  pub most-qd : qd ws ≤ maxQPart
   pub least-q : form .leastQn * qd ws ≤ form .leastQd * qn ws
+  pub most-q : qn ws ≤ maxQ * qd ws
   pub some-buckets : 1 ≤ buckets ws
   pub most-buckets : buckets ws ≤ entries ws
 

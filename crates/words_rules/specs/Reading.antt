@@ -1,4 +1,5 @@
--- What makes a list of words no histogram: sentences 7 to 12 (document 01, "When a call is turned away"), each over all buckets.
+-- What makes a list of words no histogram: sentences 7, 24 and 8 to 12 (document 01, "When a call is turned away"; 24: document 02, request v), each
+-- over all buckets.
 -- Assumes nothing.
 use mathlib.Core.Path.{_≡_}
 use mathlib.Core.Bool.{Bool, not, _&&_, _||_}
@@ -15,9 +16,9 @@ use Rattle.counts_rules.specs.Total.{validCode}
 use Rattle.words_rules.specs.declared.Head.{Head}
 use Rattle.words_rules.specs.declared.Bucket.{Bucket}
 use Rattle.laws.specs.Between.{between}
-use Rattle.list_rules.specs.Limits.{entriesGood, thetaGood, qGood}
+use Rattle.list_rules.specs.Limits.{entriesGood, thetaGood, qGood, qLarge}
 use Rattle.words_rules.specs.Limits.{maxWidth}
-use Rattle.words_rules.specs.Words.{headWords, bucketWords, word, kind, entries, buckets, headOf, packedAt, listedIn, start, span}
+use Rattle.words_rules.specs.Words.{headWords, bucketWords, word, kind, entries, qn, qd, buckets, headOf, packedAt, listedIn, start, span}
 use Rattle.words_rules.specs.Decoded.{widthAt, classAt, bucketAt}
 
 -- 7: there are fewer than four words, or a head word breaks its layout or limits. Of the third only bits 19 to 0 are fields; a word that is
@@ -28,6 +29,11 @@ headGood h = entriesGood (h .entries) && thetaGood (h .theta) && qGood (h .qn) (
 
 unfoldable pub headFault : List ℕ → Bool
 headFault ws = ltb (length ws) headWords || not (ltb (word ws 2) (2 ^ 20)) || not (headGood (headOf ws))
+
+-- 24: q is above 8
+
+unfoldable pub largeQFault : List ℕ → Bool
+largeQFault ws = qLarge (qn ws) (qd ws)
 
 -- 8: the length is not 4 plus 5 times the buckets
 
@@ -90,6 +96,7 @@ codeFault ws = some (buckets ws) (λ b. codesBroken (bucketAt ws b))
 abbrev pub readSentences : List ℕ → List Sentence
 readSentences ws =
     record { number = 7; holds = headFault ws }
+    ∷ record { number = 24; holds = largeQFault ws }
     ∷ record { number = 8; holds = lengthFault ws }
     ∷ record { number = 9; holds = wordFault ws }
     ∷ record { number = 10; holds = startFault ws }

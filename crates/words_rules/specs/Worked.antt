@@ -108,6 +108,16 @@ pub record Faults : Type 0 where
       ≡ 0 ∷ 7 ∷ 7 ∷ 7 ∷ []
   pub q-least : changed tens 2 (124 * 2 ^ 10 + 100) ∷ changed tens 2 (5 * 2 ^ 10 + 4) ∷ [] ≡ 7 ∷ 0 ∷ []
   pub bucket-limits : changed tens 3 0 ∷ changed tens 3 5 ∷ [] ≡ 7 ∷ 7 ∷ []
+  -- 24: q 8/1, 80/10 and 1000/125 are taken, and 9/1, 15/1 and 1000/124 are not; 7 comes before it (three words, theta 0, qn 1001) and 8 after it (a word
+  -- too few, two buckets)
+  pub q-most :
+      changed tens 2 (8 * 2 ^ 10 + 1) ∷ changed tens 2 (80 * 2 ^ 10 + 10) ∷ changed tens 2 (1000 * 2 ^ 10 + 125)
+      ∷ changed tens 2 (9 * 2 ^ 10 + 1) ∷ changed tens 2 (15 * 2 ^ 10 + 1) ∷ changed tens 2 (1000 * 2 ^ 10 + 124) ∷ []
+      ≡ 0 ∷ 0 ∷ 0 ∷ 24 ∷ 24 ∷ 24 ∷ []
+  pub q-order :
+      changed (take 3 tens) 2 (9 * 2 ^ 10 + 1) ∷ changed (set tens 1 0) 2 (9 * 2 ^ 10 + 1) ∷ changed tens 2 (1001 * 2 ^ 10 + 1)
+      ∷ changed (take 8 tens) 2 (9 * 2 ^ 10 + 1) ∷ changed (set tens 3 2) 2 (9 * 2 ^ 10 + 1) ∷ []
+      ≡ 7 ∷ 7 ∷ 7 ∷ 24 ∷ 24 ∷ []
   -- 8: the number of buckets, or a word too few or too many
   pub lengths : changed tens 3 2 ∷ readFault (take 8 tens) ∷ readFault (tens ++ (0 ∷ [])) ∷ readFault (take 4 tens) ∷ [] ≡ 8 ∷ 8 ∷ 8 ∷ 8 ∷ []
   -- 9: each word at a kind that another has, and the bits above the last six widths
@@ -140,6 +150,8 @@ pub record Found : Type 0 where
   pub bucketlets-of : map (bucketletOf (bucketAt gaps 0)) (0 ∷ 1 ∷ 2 ∷ 3 ∷ 5 ∷ []) ≡ 1 ∷ 1 ∷ 4 ∷ 6 ∷ 6 ∷ []
   pub first : found two 3 ≡ take 5 (drop 4 two)
   pub second : found two 4 ≡ drop 9 two
-  pub faults : findFault two 9 ∷ findFault two 10 ∷ findFault [] 0 ∷ findFault (take 13 two) 10 ∷ [] ≡ 0 ∷ 15 ∷ 7 ∷ 8 ∷ []
+  pub faults :
+      findFault two 9 ∷ findFault two 10 ∷ findFault [] 0 ∷ findFault (take 13 two) 10 ∷ findFault (set two 2 (9 * 2 ^ 10 + 1)) 10 ∷ []
+      ≡ 0 ∷ 15 ∷ 7 ∷ 8 ∷ 24 ∷ []
   pub refused : found two 10 ≡ []
   pub places : map (findReply two) (3 ∷ 4 ∷ 10 ∷ []) ≡ answered 4 ∷ answered 9 ∷ refusedWith 15 ∷ []

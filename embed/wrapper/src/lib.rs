@@ -86,6 +86,8 @@ fn coded(coded: QhCoded) -> Result<u32, Refusal> {
 ///
 /// assert!(build(&[1], 1, 5, 4).is_ok());
 /// assert_eq!(build(&[1], 1, 124, 100), Err(Refusal::Q));
+/// assert!(build(&[1], 1, 8, 1).is_ok());
+/// assert_eq!(build(&[1], 1, 15, 1), Err(Refusal::LargeQ));
 /// assert!(build(&[1_073_741_823], 1, 3, 2).is_ok());
 /// assert_eq!(build(&[1_073_741_823, 1], 1, 3, 2), Err(Refusal::Sum));
 ///

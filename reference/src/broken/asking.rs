@@ -1,5 +1,6 @@
 //! Faults of the checker, the estimator and the finder.
 
+use super::slips::stored_bound;
 use super::Fault::*;
 use super::{holds_zero, Broken, RIGHT, SHORT};
 use crate::check::{readable, verdict, Verdict};
@@ -63,11 +64,18 @@ fn with_code_0_taken(words: &[u32], taken: impl Fn(u32) -> bool) -> Vec<u32> {
 
 impl Broken {
     pub(super) fn checked(&self, frequencies: &[u32], words: &[u32]) -> Result<Verdict, u32> {
-        if self.0 == ZeroFrequencyRefusedByChecker && holds_zero(frequencies) {
+        if self.fault == ZeroFrequencyRefusedByChecker && holds_zero(frequencies) {
             return Err(2);
         }
-        let histogram = readable(frequencies, words)?;
-        let answer = verdict(frequencies, &histogram, |part, s, bound| match self.0 {
+        let stored = stored_bound(words);
+        if self.fault == AboveEightBeforeTheList && stored.is_some_and(Bound::q_too_large) {
+            return Err(24);
+        }
+        let judged = self.judged_words(words, |words| RIGHT.check(frequencies, words).refusal);
+        let mut histogram = readable(frequencies, &judged)?;
+        // What fits is a matter of the q that is stored.
+        histogram.head.bound = stored.expect("words that are read have a head");
+        let answer = verdict(frequencies, &histogram, |part, s, bound| match self.fault {
             ByEndThenStart if part.len() <= SHORT => first_failing_by_end(part, s, bound),
             JudgedWithThe1 if part.len() <= SHORT && s == 0 => first_failing_with_1(part, bound),
             WholeExcused if count(part).max(s) <= bound.theta.into() => {
@@ -76,18 +84,19 @@ impl Broken {
             _ => first_failing(part, s, bound),
         });
         Ok(match answer {
-            Verdict::Fails { sort: Sort::Bucket, .. } if self.0 == TotalsNotChecked => Verdict::Accepted,
+            Verdict::Fails { sort: Sort::Bucket, .. } if self.fault == TotalsNotChecked => Verdict::Accepted,
             _ => answer,
         })
     }
 
     pub(super) fn estimated(&self, words: &[u32], x: u32, y: u32) -> Result<u64, u32> {
-        let mut histogram = asked(words, x, y)?;
-        if self.0 == Class0EstimatedAt1 {
+        let judged = self.judged_words(words, |words| RIGHT.estimate(words, x, y).refusal);
+        let mut histogram = asked(&judged, x, y)?;
+        if self.fault == Class0EstimatedAt1 {
             histogram.buckets.iter_mut().for_each(class_0_as_1);
         }
         let rounded = self.rounded(&histogram, x, y);
-        Ok(match self.0 {
+        Ok(match self.fault {
             SumOf0AnsweredWith0 => rounded,
             EmptyRangeAnsweredWith1 => rounded.max(1),
             _ => rounded.max(u64::from(x < y)),
@@ -98,7 +107,7 @@ impl Broken {
         let sum = exact(histogram, x, y);
         let bucketlets = histogram.buckets.iter().flat_map(|bucket| bucket.bucketlets());
         let mut holding_x = bucketlets.filter(|&(start, end, _)| start < x && x < end && end < y);
-        match (self.0, holding_x.next()) {
+        match (self.fault, holding_x.next()) {
             (RoundedDown, _) => (sum.numerator / sum.denominator) as u64,
             (EachCutRounded, Some((_, cut, _))) => {
                 exact(histogram, x, cut).rounded_up() + exact(histogram, cut, y).rounded_up()
@@ -108,16 +117,16 @@ impl Broken {
     }
 
     pub(super) fn found(&self, words: &[u32], entry: u32) -> QhFound {
-        let words = &match self.0 {
+        let words = &match self.fault {
             Code0AlwaysValid => with_code_0_taken(words, |_| true),
             Code0BesideLastClasses => with_code_0_taken(words, |second| second << 2 == 0),
-            _ => words.to_vec(),
+            _ => self.judged_words(words, |words| RIGHT.find(words, entry).refusal),
         };
         if read(words).is_ok_and(|histogram| histogram.buckets.iter().any(|bucket| self.refuses(bucket))) {
             return Err(12).into();
         }
         let found = RIGHT.find(words, entry);
-        if self.0 == FoundOneLate && found.refusal == 0 {
+        if self.fault == FoundOneLate && found.refusal == 0 {
             return RIGHT.find(words, entry.saturating_sub(1));
         }
         found
@@ -125,7 +134,7 @@ impl Broken {
 
     /// Whether 12 is said of a bucket that reads well.
     fn refuses(&self, bucket: &Bucket) -> bool {
-        match self.0 {
+        match self.fault {
             Class0AtAWidthRefused => bucket.bucketlets().any(|(_, _, class)| class == 0),
             Code0NeverValid => bucket.total == 0,
             OnlyCode0BesideClasses0 => bucket.classes == [0; 8] && bucket.total > 0,

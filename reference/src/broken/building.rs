@@ -1,4 +1,4 @@
-//! Faults of the builder.
+//! Faults of the builder, some of which the listing program may have too.
 
 use super::Fault::*;
 use super::{holds_zero, Broken, RIGHT, SHORT};
@@ -34,7 +34,7 @@ fn width_by_halving(rest: &[u32], limit: usize, bound: Bound) -> usize {
 
 impl Broken {
     fn grow(&self, rest: &[u32], limit: usize, bound: Bound) -> usize {
-        match self.0 {
+        match self.fault {
             FittedByExactAverage if limit <= SHORT => {
                 let fits = |&width: &usize| {
                     let part = &rest[..width];
@@ -51,18 +51,29 @@ impl Broken {
         }
     }
 
+    /// The histogram of a list; refusals 1, 3 to 5 and 24.
+    pub(super) fn histogram(&self, frequencies: &[u32], bound: Bound) -> Result<Histogram, u32> {
+        if self.fault == AboveEightBeforeTheList && bound.q_too_large() {
+            return Err(24);
+        }
+        fault(frequencies, self.judged(bound))?;
+        let buckets = lay_out(frequencies, |rest, limit| self.grow(rest, limit, bound));
+        Ok(Histogram::new(bound, buckets))
+    }
+
     pub(super) fn built(&self, frequencies: &[u32], bound: Bound, lent: &mut [u32]) -> Result<usize, u32> {
-        if self.0 == ZeroFrequencyRefusedByBuilder && holds_zero(frequencies) {
+        if self.fault == ZeroFrequencyRefusedByBuilder && holds_zero(frequencies) {
             return Err(2);
         }
-        fault(frequencies, bound)?;
-        let buckets = lay_out(frequencies, |rest, limit| self.grow(rest, limit, bound));
-        let words = write(&Histogram::new(bound, buckets));
-        if self.0 == WordsBeforeRefusal && !lent.is_empty() {
+        let words = write(&self.histogram(frequencies, bound)?);
+        if self.fault == WordsBeforeRefusal && !lent.is_empty() {
             lent[0] = words[0];
         }
+        if self.fault == AboveEightAfter6 && bound.q_too_large() && words.len() <= lent.len() {
+            return Err(24);
+        }
         let number = lend(&words, lent)?;
-        if self.0 == RestCleared {
+        if self.fault == RestCleared {
             lent[number..].fill(0);
         }
         Ok(number)

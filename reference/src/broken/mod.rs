@@ -1,9 +1,12 @@
 //! The reference with one fault on purpose, one or more for each call: the comparison must find
 //! each of them. `FittedByExactAverage`, `WidthByHalving`, `WiderQ` and `EachCutRounded` are document
-//! 01's missteps; those about a zero, about 0 and about the 1 are missteps of request (iv).
+//! 01's missteps; those about a zero, about 0 and about the 1 are missteps of request (iv), and those
+//! about eight and nine, each of them in one call at a time, of request (v).
 
 mod asking;
 mod building;
+mod listing;
+mod slips;
 
 use crate::build::Way;
 use crate::coding::class_start;
@@ -11,14 +14,14 @@ use crate::list::{list_fault, Bound};
 use crate::program::*;
 
 macro_rules! faults {
-    ($($fault:ident: $call:literal,)*) => {
+    ($($fault:ident: $($call:literal)|+,)*) => {
         #[derive(Clone, Copy, Debug, PartialEq, Eq)]
         pub enum Fault { $($fault),* }
 
         use Fault::*;
 
         /// The faults with the call that each is in, as the comparison names it.
-        pub const FAULTS: &[(Fault, &str)] = &[$(($fault, $call)),*];
+        pub const FAULTS: &[(Fault, &str)] = &[$($(($fault, $call)),+),*];
     };
 }
 
@@ -56,6 +59,18 @@ faults! {
     LastFeedNotNeeded: "sheet",
     SheetEndedByZero: "sheet",
     Class0NotListed: "sheet",
+    EightRefused: "build" | "check" | "estimate" | "find" | "sheet",
+    NineTaken: "build" | "check" | "estimate" | "find" | "sheet",
+    AboveEightTaken: "build" | "check" | "estimate" | "find" | "sheet",
+    AboveEightRoundedDown: "build" | "check" | "estimate" | "find" | "sheet",
+    AboveEightOutsideLimits: "build" | "check" | "estimate" | "find" | "sheet",
+    NumeratorAboveEight: "build" | "check" | "estimate" | "find" | "sheet",
+    AboveEightBeforeTheList: "build" | "check" | "sheet",
+    AboveEightBefore5: "build" | "sheet",
+    AboveEightAfter6: "build",
+    AboveEightBefore7: "check" | "estimate" | "find",
+    AboveEightAfter8: "check" | "estimate" | "find",
+    AboveEightLast: "check" | "estimate" | "find",
 }
 
 const RIGHT: Reference = Reference(Way::FewerRanges);
@@ -68,13 +83,17 @@ fn holds_zero(frequencies: &[u32]) -> bool {
     list_fault(frequencies) != Err(1) && frequencies.contains(&0)
 }
 
+/// The reference with a fault in one call; the others answer as they should.
 #[derive(Clone, Copy, Debug)]
-pub struct Broken(pub Fault);
+pub struct Broken {
+    pub fault: Fault,
+    pub call: &'static str,
+}
 
 impl Program for Broken {
     fn class_of(&self, count: u32) -> QhCoded {
         let mut answer = RIGHT.class_of(count);
-        match self.0 {
+        match self.fault {
             ZeroCountRefused if count == 0 => return Err(16).into(),
             ClassAtItsStart if count == class_start(62) => answer.value -= 1,
             _ => {}
@@ -83,7 +102,7 @@ impl Program for Broken {
     }
 
     fn number_of_class(&self, class: u32) -> QhCoded {
-        match (self.0, class) {
+        match (self.fault, class) {
             (Class63Read, 63) => Ok(1_358_320_421).into(),
             (Class0ReadAs1, 0) => Ok(1).into(),
             _ => RIGHT.number_of_class(class),
@@ -92,7 +111,7 @@ impl Program for Broken {
 
     fn code_of_total(&self, total: u32) -> QhCoded {
         let mut answer = RIGHT.code_of_total(total);
-        match self.0 {
+        match self.fault {
             ZeroTotalRefused if total == 0 => return Err(16).into(),
             CodeOfAPowerOfTwo if total == 1 << 20 => answer.value -= 1,
             _ => {}
@@ -102,7 +121,7 @@ impl Program for Broken {
 
     fn number_of_total(&self, code: u32) -> QhCoded {
         let mut answer = RIGHT.number_of_total(code);
-        match self.0 {
+        match self.fault {
             Code0Refused if code == 0 => return Err(17).into(),
             NumberOfTheLastShift if code % 32 == 23 && answer.refusal == 0 => answer.value += 1,
             _ => {}
@@ -111,37 +130,37 @@ impl Program for Broken {
     }
 
     fn build(&self, frequencies: &[u32], bound: Bound, lent: &mut [u32]) -> QhBuilt {
-        self.built(frequencies, bound, lent).into()
+        match self.call {
+            "build" => self.built(frequencies, bound, lent).into(),
+            _ => RIGHT.build(frequencies, bound, lent),
+        }
     }
 
     fn check(&self, frequencies: &[u32], words: &[u32]) -> QhVerdict {
-        self.checked(frequencies, words).into()
+        match self.call {
+            "check" => self.checked(frequencies, words).into(),
+            _ => RIGHT.check(frequencies, words),
+        }
     }
 
     fn estimate(&self, words: &[u32], x: u32, y: u32) -> QhEstimate {
-        self.estimated(words, x, y).into()
+        match self.call {
+            "estimate" => self.estimated(words, x, y).into(),
+            _ => RIGHT.estimate(words, x, y),
+        }
     }
 
     fn find(&self, words: &[u32], entry: u32) -> QhFound {
-        self.found(words, entry)
+        match self.call {
+            "find" => self.found(words, entry),
+            _ => RIGHT.find(words, entry),
+        }
     }
 
     fn sheet(&self, input: &[u8], lent: &mut Sheet) -> usize {
-        let mut input = input.to_vec();
-        if self.0 == LastFeedNotNeeded && input.last().is_some_and(u8::is_ascii_digit) {
-            input.push(b'\n');
+        match self.call {
+            "sheet" => self.listed(input, lent),
+            _ => RIGHT.sheet(input, lent),
         }
-        let mut length = RIGHT.sheet(&input, lent);
-        match self.0 {
-            SheetEndedByZero => lent[length] = 0,
-            Class0NotListed => {
-                let lines = lent[..length].split_inclusive(|&byte| byte == b'\n');
-                let listed = lines.filter(|line| !line.ends_with(b" code 0 count 0\n")).collect::<Vec<_>>().concat();
-                length = listed.len();
-                lent[..length].copy_from_slice(&listed);
-            }
-            _ => {}
-        }
-        length
     }
 }

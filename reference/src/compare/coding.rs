@@ -8,8 +8,9 @@ use crate::generate::foreign::codes;
 use crate::generate::Random;
 use crate::list::{Bound, COUNT_LIMIT, MOST_ENTRIES, MOST_THETA};
 
-/// Parts of q about their limits; the last but one wraps to 4 when it is multiplied by 4.
-const Q_PARTS: [u32; 14] = [0, 1, 2, 4, 5, 100, 124, 125, 800, 801, 1_000, 1_001, 1_073_741_825, u32::MAX];
+/// Parts of q about their limits; the last but one wraps to 4 when it is multiplied by 4, the one before it to 0 by 8.
+const Q_PARTS: [u32; 17] =
+    [0, 1, 2, 4, 5, 8, 9, 100, 124, 125, 800, 801, 1_000, 1_001, 1 << 29, 1_073_741_825, u32::MAX];
 
 /// Small counts, those about every edge, and random ones.
 fn counts(random: &mut Random, number: u32) -> Vec<u32> {

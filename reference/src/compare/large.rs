@@ -165,15 +165,16 @@ impl Comparison<'_> {
     /// Histograms and lists at the ends of what is possible, and beyond.
     pub(super) fn extremes(&mut self) {
         let mut random = self.random(10);
-        let bound = Bound::new(1, 1_000, 1);
-        // Estimates past 32 bits, accepted.
-        let words = bucket_for_each(5, bound, 41, 4_087);
-        let frequencies = [1_068_828; 5];
-        for range in all_ranges(5) {
+        // The largest q with the largest parts.
+        let bound = Bound::new(1, 1_000, 125);
+        // Estimates past 32 bits, accepted: each total is as far above its count as q allows.
+        let words = bucket_for_each(8, bound, 56, 4_087);
+        let frequencies = [133_603_487; 8];
+        for range in all_ranges(8) {
             self.estimate(EstimateLarge, &words, range);
         }
         if self.check(CheckLarge, &frequencies, &words) {
-            self.demand_three(DemandLarge, &frequencies, &words, all_ranges(5));
+            self.demand_three(DemandLarge, &frequencies, &words, all_ranges(8));
         } else {
             self.fail(CheckLarge, "estimates past 32 bits are not accepted");
         }
@@ -206,7 +207,7 @@ impl Comparison<'_> {
             (bucket.widths[place], bucket.classes[place], bucket.total) = (4_095, 62, 4_087);
             bucket
         };
-        let bound = Bound::new(MOST_THETA, 1_000, 1);
+        let bound = Bound::new(MOST_THETA, 1_000, 125);
         let histogram = Histogram::new(bound, vec![half(0, false), half(4_095, true)]);
         let words = write(&histogram);
         let cuts = [(1, 8_189), (1, 8_190), (0, 8_189), (4_094, 4_096), (1, 4_094), (0, 8_190)];

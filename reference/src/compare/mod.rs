@@ -6,10 +6,12 @@ mod directed;
 mod factors;
 mod large;
 mod sheets;
+mod slips;
 mod small;
 mod zeros;
 
 use crate::demand::KS;
+use crate::generate::slips::LAST_QD;
 use crate::generate::Random;
 use crate::program::Program;
 use factors::Largest;
@@ -38,6 +40,7 @@ groups! {
     BuildReal: "build: real lists",
     BuildZeros: "build: lists with zeros",
     BuildRefused: "build: refusals and lent words",
+    BuildSlips: "build: q about 8",
     CheckBuilt: "check: built histograms",
     CheckForeign: "check: foreign histograms",
     CheckOther: "check: other lists than the one built for",
@@ -47,6 +50,7 @@ groups! {
     CheckReal: "check: real lists",
     CheckDirected: "check: directed lists",
     CheckZeros: "check: lists with zeros, and class 0",
+    CheckSlips: "check: q about 8",
     EstimateBuilt: "estimate: built histograms",
     EstimateForeign: "estimate: foreign histograms",
     EstimateDamaged: "estimate: damaged words",
@@ -55,13 +59,16 @@ groups! {
     EstimateReal: "estimate: real lists",
     EstimateDirected: "estimate: directed lists",
     EstimateZeros: "estimate: lists with zeros, and class 0",
+    EstimateSlips: "estimate: q about 8",
     FindSmall: "find: built and foreign histograms",
     FindDamaged: "find: damaged words",
     FindRandom: "find: random words",
     FindLarge: "find: wide and large lists",
     FindReal: "find: real lists",
+    FindSlips: "find: q about 8",
     SheetGood: "sheet: good input",
     SheetDamaged: "sheet: damaged input",
+    SheetSlips: "sheet: q about 8",
     SheetProgram: "sheet: what the listing program prints",
     DemandBuilt: "demand 3: built histograms",
     DemandForeign: "demand 3: foreign histograms",
@@ -69,6 +76,7 @@ groups! {
     DemandLarge: "demand 3: wide and large lists",
     DemandReal: "demand 3: real lists",
     DemandZeros: "demand 3: lists with zeros",
+    DemandSlips: "demand 3: q about 8",
     DemandNear: "demand 3: directed lists tell k - 2 from k - 1",
 }
 
@@ -92,15 +100,25 @@ pub struct Volume {
     pub longest: usize,
     pub directed: usize,
     pub sheets: usize,
+    /// The last qd beside which each q about 8 is tried.
+    pub last_qd: u32,
 }
 
 impl Volume {
-    pub const FULL: Volume =
-        Volume { codings: 1_000_000, small: 20_000, tiny: 5, wide: 80, longest: 65_536, directed: 300, sheets: 3_000 };
+    pub const FULL: Volume = Volume {
+        codings: 1_000_000,
+        small: 20_000,
+        tiny: 5,
+        wide: 80,
+        longest: 65_536,
+        directed: 300,
+        sheets: 3_000,
+        last_qd: LAST_QD,
+    };
 
     /// Enough to find the known faults in a test.
     pub const QUICK: Volume =
-        Volume { codings: 3_000, small: 150, tiny: 3, wide: 0, longest: 600, directed: 10, sheets: 120 };
+        Volume { codings: 3_000, small: 150, tiny: 3, wide: 0, longest: 600, directed: 10, sheets: 120, last_qd: 4 };
 }
 
 #[derive(Clone, Copy, Debug, Default)]
@@ -169,6 +187,7 @@ impl<'a> Comparison<'a> {
         self.part("extremes", Comparison::extremes);
         self.part("real lists", Comparison::real_lists);
         self.part("lists with zeros", Comparison::lists_with_zeros);
+        self.part("q about 8", Comparison::slips);
         self.part("refusals of the builder", Comparison::build_refusals);
         self.part("every bit", Comparison::every_bit);
         self.part("random words", Comparison::random_words);

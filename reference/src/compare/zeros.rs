@@ -20,7 +20,7 @@ const LISTS: [(&[u32], Bound); 11] = [
     (&[0, 0, 5, 0, 0], Bound::new(1, 3, 2)),
     (&[0, 100, 0, 100, 0, 100, 0, 100, 0, 100, 0], Bound::new(1, 5, 4)),
     (&[100, 0, 0, 0, 100, 0, 0, 0, 0, 0, 0, 0, 0, 0], Bound::new(1, 2, 1)),
-    (&[0, COUNT_LIMIT, 0], Bound::new(1, 1_000, 1)),
+    (&[0, COUNT_LIMIT, 0], Bound::new(1, 1_000, 125)),
     (&[0, COUNT_LIMIT, 0], Bound::new(MOST_THETA, 5, 4)),
     (&[10, 10, 10, 10], Bound::new(1, 3, 2)),
     (&[0, 5, 7], Bound::new(10, 3, 2)),

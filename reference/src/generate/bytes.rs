@@ -30,11 +30,13 @@ pub fn damaged(random: &mut Random, input: &[u8]) -> Vec<u8> {
 }
 
 const STRANGE: &[u8] = b"\n\n\r +-.,0123456789\t\0a\xEF\xFF_x";
-const NUMBERS: [&str; 14] = [
+const NUMBERS: [&str; 16] = [
     "0",
     "00",
     "01",
     "+1",
+    "8",
+    "9",
     "-0",
     "4294967295",
     "4294967296",

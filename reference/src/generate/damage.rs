@@ -4,9 +4,11 @@ use super::foreign::codes;
 use super::Random;
 use crate::words::{HEADS, KINDS, PER_BUCKET};
 
-/// Head words near their limits, q among them.
-const EDGES: [u32; 12] =
-    [0, 1, 65_535, 65_536, 65_537, 1_048_575, 1_048_576, 0x0C02, 0x1405, 0xF_A321, 0xF_A320, 1 << 29];
+/// Head words near their limits.
+const EDGES: [u32; 8] = [0, 1, 65_535, 65_536, 65_537, 1_048_575, 1_048_576, 1 << 29];
+
+/// The word of q near its limits: 5/4, 5/5, 8/1, 9/1, and 1000 over 125, 124, 801 and 800.
+const Q_EDGES: [u32; 8] = [0x1404, 0x1405, 0x2001, 0x2401, 0xF_A07D, 0xF_A07C, 0xF_A321, 0xF_A320];
 
 /// Widths as their word and lowest bit.
 const WIDTHS: [(usize, u32); 7] = [(0, 0), (3, 18), (3, 9), (3, 0), (4, 18), (4, 9), (4, 0)];
@@ -46,7 +48,7 @@ fn word_fault(random: &mut Random, words: &mut [u32]) {
         0 | 1 => words[place] ^= 1 << random.below(32),
         2 => words[place] = random.pick(&[0, u32::MAX, 1 << 30, 2 << 30, 3 << 30]),
         3 => words[place] = random.word() as u32,
-        4 => words[head] = random.pick(&EDGES),
+        4 => words[head] = random.pick(if head == 2 { &Q_EDGES } else { &EDGES }),
         _ => words[head] = words[head].wrapping_add(random.pick(&[1, 2, u32::MAX])),
     }
 }
@@ -113,7 +115,9 @@ pub fn random_words(random: &mut Random) -> Vec<u32> {
     }
     let buckets = random.between(1, 3) as u32;
     let d = random.between(buckets.into(), 60) as u32;
-    let mut words = vec![d, random.any_size(300) as u32, 0xC02, buckets];
+    // 3/2, 8/1, or 9/1 which is refused.
+    let q = if random.chance(1, 8) { 0x2401 } else { random.pick(&[0xC02, 0x2001]) };
+    let mut words = vec![d, random.any_size(300) as u32, q, buckets];
     let zeros = random.chance(1, 4);
     for bucket in 0..buckets {
         let mut five = KINDS.map(|kind| (kind << 30) | random.below(1 << 30) as u32);

@@ -2,7 +2,7 @@
 
 use super::Random;
 use crate::coding::{class_for, class_number, class_start};
-use crate::list::{count, Bound, COUNT_LIMIT, MOST_Q_PART, MOST_THETA};
+use crate::list::{count, Bound, COUNT_LIMIT, MOST_Q, MOST_Q_PART, MOST_THETA};
 
 #[derive(Clone, Copy, Debug, PartialEq, Eq)]
 pub enum Kind {
@@ -128,7 +128,7 @@ fn theta(random: &mut Random, frequencies: &[u32]) -> u32 {
 }
 
 fn q(random: &mut Random, frequencies: &[u32]) -> (u32, u32) {
-    const USUAL: [(u32, u32); 7] = [(5, 4), (3, 2), (2, 1), (7, 5), (3, 1), (1_000, 800), (1_000, 1)];
+    const USUAL: [(u32, u32); 8] = [(5, 4), (3, 2), (2, 1), (7, 5), (3, 1), (8, 1), (1_000, 800), (1_000, 125)];
     match random.below(4) {
         0 | 1 => random.pick(&USUAL),
         2 => any_q(random),
@@ -137,7 +137,7 @@ fn q(random: &mut Random, frequencies: &[u32]) -> (u32, u32) {
             let (a, b) = ((f * w).max(n * s), (f * w).min(n * s));
             let common = divisor(a, b).max(1);
             let (qn, qd) = (a / common, b / common);
-            if qd > 0 && qn <= u64::from(MOST_Q_PART) && 4 * qn >= 5 * qd {
+            if qd > 0 && qn <= most_numerator(qd) && 4 * qn >= 5 * qd {
                 (qn as u32, qd as u32)
             } else {
                 any_q(random)
@@ -146,13 +146,19 @@ fn q(random: &mut Random, frequencies: &[u32]) -> (u32, u32) {
     }
 }
 
+/// The largest qn that no refusal names beside a qd.
+fn most_numerator(qd: u64) -> u64 {
+    u64::from(MOST_Q_PART).min(u64::from(MOST_Q) * qd)
+}
+
 pub fn any_q(random: &mut Random) -> (u32, u32) {
     let qd = random.any_size(800);
     let least = (5 * qd).div_ceil(4);
-    let most = u64::from(MOST_Q_PART);
-    let qn = match random.below(3) {
+    let most = most_numerator(qd);
+    let qn = match random.below(4) {
         0 => least,
-        1 => random.between(least, (2 * least).min(most)),
+        1 => most,
+        2 => random.between(least, (2 * least).min(most)),
         _ => random.between(least, most),
     };
     (qn as u32, qd as u32)

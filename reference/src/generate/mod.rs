@@ -6,6 +6,7 @@ pub mod directed;
 pub mod foreign;
 pub mod lists;
 pub mod ranges;
+pub mod slips;
 
 /// Splitmix64: the same seed gives the same numbers everywhere.
 #[derive(Clone, Debug)]

@@ -9,7 +9,7 @@ use lib.ListN.{length}
 use Rattle.laws.specs.Private.Greatest.{Greatest}
 use Rattle.laws.specs.Sums.{partSum}
 use Rattle.counts_rules.specs.Limit.{limit}
-use Rattle.list_rules.specs.Limits.{maxQ}
+use Rattle.list_rules.specs.Limits.{maxQPart}
 use Rattle.words_rules.specs.Limits.{maxWidth}
 use Rattle.list_rules.specs.declared.Quality.{Quality}
 use Rattle.list_rules.specs.Private.Sound.{Sound}
@@ -61,7 +61,7 @@ pub record Bounding (q : Quality) (fs : List ℕ) (a w i : ℕ) (b : Bounds) : T
   pub low-top : b .low .top ≤ limit
   pub low-bottom : b .low .bottom ≤ maxWidth
   pub up-top : b .up .top ≤ maxWidth
-  pub up-bottom : b .up .bottom ≤ maxQ * limit
+  pub up-bottom : b .up .bottom ≤ maxQPart * limit
 
 -- the bucketlet at a may be so wide
 pub record Growable (fs : List ℕ) (a most : ℕ) (q : Quality) : Type 0 where
@@ -83,8 +83,8 @@ pub record Testable (q : Quality) (b : Bounds) (s w : ℕ) : Type 0 where
   pub low-top : b .low .top ≤ limit
   pub low-bottom : b .low .bottom ≤ maxWidth
   pub up-top : b .up .top ≤ maxWidth
-  pub up-bottom : b .up .bottom ≤ maxQ * limit
+  pub up-bottom : b .up .bottom ≤ maxQPart * limit
   pub number : s < 2 ^ 31
   pub narrow : w ≤ maxWidth
-  pub qn-small : q .qn ≤ maxQ
-  pub qd-small : q .qd ≤ maxQ
+  pub qn-small : q .qn ≤ maxQPart
+  pub qd-small : q .qd ≤ maxQPart

@@ -8,7 +8,7 @@ use lib.ListN.{length}
 use Rattle.counts_rules.specs.Limit.{limit}
 use Rattle.counts_rules.specs.Form.{usedClass}
 use Rattle.counts_rules.specs.Total.{validCode}
-use Rattle.list_rules.specs.Limits.{maxTheta, maxQ}
+use Rattle.list_rules.specs.Limits.{maxTheta, maxQPart}
 use Rattle.words_rules.specs.Limits.{maxWidth}
 use Rattle.words_rules.specs.Words.{buckets}
 use Rattle.list_rules.specs.declared.Quality.{Quality}
@@ -18,8 +18,8 @@ use Rattle.list_rules.specs.Private.Sound.{Sound}
 -- a count and an estimate x / w whose products are small
 pub record Comparable (q : Quality) (f x w : ℕ) : Type 0 where
   pub theta-small : q .theta ≤ maxTheta
-  pub qn-small : q .qn ≤ maxQ
-  pub qd-small : q .qd ≤ maxQ
+  pub qn-small : q .qn ≤ maxQPart
+  pub qd-small : q .qd ≤ maxQPart
   pub count-small : f ≤ limit
   pub estimate-small : x ≤ maxWidth * 2 ^ 31
   pub narrow : w ≤ maxWidth

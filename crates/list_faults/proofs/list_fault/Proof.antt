@@ -7,12 +7,11 @@ use Prim.Native.Nat.{ℕ, _≤_, _<_}
 use native.Mathlib.Omega.{arith}
 use borrow.Author.Needs.{needs}
 use borrow.Author.Tests.{lt-ltb, le-ltb}
-use lib.ListN.{length, drop}
+use lib.ListN.{length}
 use Rattle.laws.specs.Sums.{sum}
-use Rattle.laws.specs.Refusal.{refusal}
 use Rattle.laws.proofs.Tests.{is-false, not-holds}
-use Rattle.laws.proofs.RefusalLaws.{refused, passed, none-left}
-use Rattle.list_rules.specs.Frequencies.{entriesFault, sumFault, listSentences, listFault}
+use Rattle.laws.proofs.RefusalLaws.{Past, refused, passed, none-left}
+use Rattle.list_rules.specs.Frequencies.{entriesFault, sumFault, listSentences}
 use Rattle.laws.proofs.BetweenLaws.{within, is-within}
 use Rattle.list_rules.specs.Limits.{maxEntries}
 use Rattle.list_faults.proofs.list_fault.Statement.{statement}
@@ -44,14 +43,14 @@ sum-of-requires : tie.Need-sum-of-requires
 sum-of-requires c κs = search needs
 
 -- sentence 1 is false
-one-passed : (c : tie.Else2) → let fs = c .before .before .before .args .freqs .now in listFault fs ≡ refusal (drop 1 (listSentences fs))
-one-passed c = passed _ _ (right-length (c .before .before .before .args .freqs .now) (omega arith) (omega arith))
+past-1 : (c : tie.Else2) → let fs = c .before .before .before .args .freqs .now in Past 1 (listSentences fs)
+past-1 c = passed _ _ (right-length (c .before .before .before .args .freqs .now) (omega arith) (omega arith))
 
 returns-3 : tie.Need-returns-3
-returns-3 c = sym (one-passed (c .before .before) ∙ refused _ _ (large-sum _ _ (c .before .sum-of .ensures) (omega arith)))
+returns-3 c = sym (past-1 (c .before .before) ∙ refused _ _ (large-sum _ _ (c .before .sum-of .ensures) (omega arith)))
 
 returns-4 : tie.Need-returns-4
-returns-4 c = sym (one-passed (c .before .before) ∙ passed _ _ (small-sum _ _ (c .before .sum-of .ensures) (omega arith)) ∙ none-left)
+returns-4 c = sym (past-1 (c .before .before) ∙ passed _ _ (small-sum _ _ (c .before .sum-of .ensures) (omega arith)) ∙ none-left)
 
 pub list-fault-spec : {M : Type 1} → statement M
 list-fault-spec = tie.close (tie.spec returns returns-2 sum-of-requires returns-3 returns-4)

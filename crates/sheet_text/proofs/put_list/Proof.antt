@@ -1,7 +1,6 @@
 -- `sheet_text::put_list` meets its contract: the builder has room for the longest histogram, so that it refuses only what the definition does. Assumes nothing.
 use mathlib.Core.Path.{_≡_, refl, sym, ap, _∙_, subst, subst⁻¹}
 use Prim.Native.Nat.{ℕ, _≤_}
-use native.Mathlib.Omega.{arith}
 use borrow.Author.Needs.{needs}
 use lib.ListN.{length}
 use lib.Seq.{length-take-le}
@@ -10,7 +9,7 @@ use Rattle.sheet_rules.specs.Limits.{maxSheetWords}
 use Rattle.sheet_rules.specs.Private.Room.{Roomy}
 use Rattle.sheet_rules.specs.Sheet.{histogramSheet}
 use Rattle.sheet_text.specs.Private.Printing.{Put}
-use Rattle.sheet_text.proofs.ListLaws.{refused-fault, refused-number, refused-sheet, no-fault, count-room, words-are, words-room, built-sheet}
+use Rattle.sheet_text.proofs.ListLaws.{refused-fault, refused-sheet, no-fault, count-room, words-are, words-room, built-sheet}
 use Rattle.sheet_text.proofs.put_list.Statement.{statement}
 use Rattle.sheet_text.proofs.put_list.Tie as tie
 
@@ -37,13 +36,6 @@ put-histogram-requires c κs =
     let e = ap builtReply (sym (c .before .before .before .built .given .1)) ∙ b .ensures .0 in
     subst⁻¹ Roomy (words-are (s .args .freqs .now) (s .args .theta) (s .args .qn) (s .args .qd) (s .pre) _ e _ _ refl (b .ensures .1 .1))
     (words-room (s .args .freqs .now) (s .args .theta) (s .args .qn) (s .args .qd) (s .pre) _ e)
-
-put-refused-requires : tie.Need-put-refused-requires
-put-refused-requires c κs =
-    let s = c .before .before .before .before .before .before .before .before in
-    let b = c .before .before .before .before .before .build in
-    let e = ap builtReply (sym (c .before .before .built2 .given .1)) ∙ b .ensures .0 in
-    omega (arith, refused-number (s .args .freqs .now) (s .args .theta) (s .args .qn) (s .args .qd) (s .pre) _ e)
 
 returns : tie.Need-returns
 returns c =
@@ -85,6 +77,6 @@ put-list-spec =
     slice-aggregate-put-histogram
     put-histogram-requires
     (λ c. search needs)
-    put-refused-requires
+    (λ c κs. search needs)
     returns
     returns-2)

@@ -7,14 +7,9 @@ use Prim.Native.Nat.{_-_}
 use lib.ListN.{length, drop, length-drop}
 use lib.Seq.{length-take-le}
 use Rattle.sheet_rules.specs.Limits.{mostNumbers}
-use Rattle.sheet_text.proofs.ListLaws.{refused-small, refused-all, count-many, read-all}
+use Rattle.sheet_text.proofs.ListLaws.{refused-all, count-many, read-all}
 use Rattle.sheet_text.proofs.put_sheet.Statement.{statement}
 use Rattle.sheet_text.proofs.put_sheet.Tie as tie
-
-put-refused-requires : tie.Need-put-refused-requires
-put-refused-requires c κs =
-    let r = c .before .before .before .numbers-of in
-    refused-small _ (r .result) (r .ensures)
 
 returns : tie.Need-returns
 returns c =
@@ -71,7 +66,7 @@ put-sheet-spec =
     tie.close
     (tie.spec
     (λ c κs. search needs)
-    put-refused-requires
+    (λ c κs. search needs)
     returns
     array-read-theta
     array-read-qn

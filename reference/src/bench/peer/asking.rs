@@ -29,7 +29,7 @@ fn add_bucketlets(sum: &mut Sum, bucket: &Bucket, x: u32, y: u32) {
     }
 }
 
-/// Refusals 7 to 12, then 14.
+/// The refusals of reading, then 14.
 pub fn estimate(words: &[u32], x: u32, y: u32) -> Result<u64, u32> {
     let (head, fives) = read(words)?;
     if x > y || y > head.d {

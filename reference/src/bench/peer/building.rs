@@ -118,7 +118,7 @@ fn words<const EVERY: bool>(frequencies: &[u32], bound: Bound) -> Vec<u32> {
     words
 }
 
-/// The number of words; refusals 1 and 3 to 6, the last of which leaves the lent words as they were.
+/// The number of words; refusals 1, 3 to 5, 24 and 6, the last of which leaves the lent words as they were.
 pub fn build(ranges: Ranges, frequencies: &[u32], bound: Bound, lent: &mut [u32]) -> Result<usize, u32> {
     fault(frequencies, bound)?;
     let words = match ranges {

@@ -35,7 +35,7 @@ fn first_failing(part: &[u32], q: Quality, s: u64) -> Option<(usize, usize)> {
     None
 }
 
-/// Refusals 1 and 3, then 7 to 13; then what fails first.
+/// Refusals 1 and 3, those of reading, then 13; then what fails first.
 pub fn check(frequencies: &[u32], words: &[u32]) -> Result<Verdict, u32> {
     list_fault(frequencies)?;
     let (head, fives) = read(words)?;

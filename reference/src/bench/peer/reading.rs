@@ -97,10 +97,13 @@ fn codes_broken(five: &Five, end: u32) -> bool {
     pairs.any(broken) || if bucket.total == 0 { some_class() } else { !code_valid(bucket.total) }
 }
 
-/// The head and the buckets' words, or the first of the refusals 7 to 12.
+/// The head and the buckets' words, or the first of the refusals 7, 24 and 8 to 12.
 #[inline(never)]
 pub fn read(words: &[u32]) -> Result<(Head, &[Five]), u32> {
     let head = head(words).ok_or(7u32)?;
+    if head.bound.q_too_large() {
+        return Err(24);
+    }
     if words.len() != HEADS + PER_BUCKET * head.buckets as usize {
         return Err(8);
     }
@@ -120,7 +123,7 @@ pub fn read(words: &[u32]) -> Result<(Head, &[Five]), u32> {
     Ok((head, fives))
 }
 
-/// Where the five words of an entry's bucket begin; refusals 7 to 12, then 15.
+/// Where the five words of an entry's bucket begin; the refusals of reading, then 15.
 pub fn find(words: &[u32], entry: u32) -> Result<usize, u32> {
     let (head, fives) = read(words)?;
     if entry >= head.d {

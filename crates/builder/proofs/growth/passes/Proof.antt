@@ -8,7 +8,7 @@ use borrow.Author.Tests.{lt-leb, le-leb}
 use lib.Dec.{leb}
 use Rattle.laws.proofs.Tests.{fails-left}
 use Rattle.counts_rules.specs.Limit.{limit}
-use Rattle.list_rules.specs.Limits.{maxQ}
+use Rattle.list_rules.specs.Limits.{maxQPart}
 use Rattle.words_rules.specs.Limits.{maxWidth}
 use Rattle.list_rules.specs.declared.Quality.{Quality}
 use Rattle.build_bounds.specs.declared.Bounds.{Bounds}
@@ -18,13 +18,13 @@ use Rattle.builder.proofs.growth.passes.Tie as tie
 
 -- every product that the code makes
 record Products (q : Quality) (b : Bounds) (s w : ℕ) : Type 0 where
-  number : q .qn * s ≤ maxQ * 2 ^ 31
-  lower-right : q .qn * s * b .low .bottom ≤ maxQ * 2 ^ 31 * maxWidth
-  count : q .qd * b .low .top ≤ maxQ * limit
-  lower-left : q .qd * b .low .top * w ≤ maxQ * limit * maxWidth
-  length : q .qd * b .up .top ≤ maxQ * maxWidth
-  upper-left : q .qd * b .up .top * s ≤ maxQ * maxWidth * 2 ^ 31
-  upper-right : b .up .bottom * w ≤ maxQ * limit * maxWidth
+  number : q .qn * s ≤ maxQPart * 2 ^ 31
+  lower-right : q .qn * s * b .low .bottom ≤ maxQPart * 2 ^ 31 * maxWidth
+  count : q .qd * b .low .top ≤ maxQPart * limit
+  lower-left : q .qd * b .low .top * w ≤ maxQPart * limit * maxWidth
+  length : q .qd * b .up .top ≤ maxQPart * maxWidth
+  upper-left : q .qd * b .up .top * s ≤ maxQPart * maxWidth * 2 ^ 31
+  upper-right : b .up .bottom * w ≤ maxQPart * limit * maxWidth
 
 products : (q : Quality) (b : Bounds) (s w : ℕ) → Testable q b s w → Products q b s w
 products q b s w t =

@@ -15,7 +15,7 @@ use Rattle.laws.specs.Sums.{partSum}
 use Rattle.laws.proofs.Tests.{both-left, both-right}
 use Rattle.laws.proofs.SumsLaws.{part-cons}
 use Rattle.counts_rules.specs.Limit.{limit}
-use Rattle.list_rules.specs.Limits.{maxQ}
+use Rattle.list_rules.specs.Limits.{maxQPart}
 use Rattle.list_rules.specs.declared.Quality.{Quality}
 use Rattle.build_rules.proofs.WidthLaws.{count-small}
 use Rattle.words_rules.specs.Limits.{maxWidth}
@@ -130,7 +130,7 @@ greater-of-requires c κs =
     let p = c .before .before .before .before .before .before .before .before .before .before .before .before .before .before .pre .growable in
     let s = p .sound in
     let n : c .before .before .before .before .before .before .before .before .before .before .before .before .before .before .args .w + 1 - (l .i - 1) ≤ maxWidth = omega (arith, p .narrow) in
-    let cap : c .larger-of-wide .result ≤ maxQ * limit =
+    let cap : c .larger-of-wide .result ≤ maxQPart * limit =
     omega (arith, c .larger-of-wide .ensures, mul-le-mul (s .qn-small) (small (c .before .before .before .before .before .before)), mul-le-mul (s .qd-small) (s .theta-small)) in
     (omega (arith, mul-le-mul (l .inv .bounding .up-top) cap), omega (arith, mul-le-mul n (l .inv .bounding .up-bottom)))
 
