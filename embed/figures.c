@@ -20,7 +20,8 @@ static size_t passed, failed;
 /* Frequencies, and words of histograms. */
 static const uint32_t four_tens[] = {10, 10, 10, 10}; /* with its words, of document 01: theta 1, q 3/2 */
 static const uint32_t tens[] = {4, 1, 0xC02, 1, 0x40000204, 0x8B000000, 0x80000500, 0xC0000000, 0xC0000000};
-static const uint32_t q_8[] = {4, 1, 0x2001, 1, 0x40000204, 0x8B000000, 0x80000500, 0xC0000000, 0xC0000000};
+static const uint32_t q_8[] = { /* the same with q 8/1, and with q 9/1 */
+    4, 1, 0x2001, 1, 0x40000204, 0x8B000000, 0x80000500, 0xC0000000, 0xC0000000};
 static const uint32_t q_9[] = {4, 1, 0x2401, 1, 0x40000204, 0x8B000000, 0x80000500, 0xC0000000, 0xC0000000};
 static const uint32_t three_zeros[] = {0, 0, 0}; /* with its words: theta 1, q 3/2 */
 static const uint32_t zeros[] = {3, 1, 0xC02, 1, 0x40000203, 0x80000000, 0x80000000, 0xC0000000, 0xC0000000};

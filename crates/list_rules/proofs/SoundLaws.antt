@@ -2,7 +2,8 @@
 -- Assumes nothing.
 use mathlib.Core.Path.{_≡_, refl}
 use mathlib.Core.List.{List}
-use Prim.Native.Nat.{ℕ, _*_}
+use Prim.Native.Nat.{ℕ}
+use native.Mathlib.Omega.{arith}
 use borrow.Author.Tests.{ltb-false, not-false}
 use lib.ListN.{length}
 use Rattle.laws.specs.Refusal.{refusal}
@@ -11,7 +12,7 @@ use Rattle.laws.proofs.RefusalLaws.{numbered, none-true}
 use Rattle.counts_rules.specs.Limit.{limit}
 use Rattle.laws.proofs.BetweenLaws.{within}
 use Rattle.list_rules.proofs.LimitLaws.{good-q}
-use Rattle.list_rules.specs.Limits.{maxEntries, maxTheta, maxQ}
+use Rattle.list_rules.specs.Limits.{maxEntries, maxTheta}
 use Rattle.list_rules.specs.Frequencies.{entriesFault, sumFault}
 use Rattle.list_rules.specs.Private.Sound.{Sound}
 use Rattle.list_rules.specs.Quality.{quality, inputSentences}
@@ -23,6 +24,7 @@ sound-of fs theta qn qd e =
     let l = within 1 maxEntries (length fs) (not-false _ (n .0)) in
     let t = within 1 maxTheta theta (not-false _ (n .1 .1 .0)) in
     let f = good-q qn qd (not-false _ (n .1 .1 .1 .0)) in
+    let large = n .1 .1 .1 .1 .0 in
     record {
       some = l .least;
       many = l .most;
@@ -33,5 +35,5 @@ sound-of fs theta qn qd e =
       qd-some = f .den .least;
       qd-small = f .den .most;
       factor = f .least;
-      factor-small = ltb-false (maxQ * qd) qn (n .1 .1 .1 .1 .0);
+      factor-small = omega (arith, ltb-false);
     }

@@ -3,10 +3,15 @@
 use mathlib.Core.Path.{_≡_}
 use mathlib.Core.Bool.{true, false}
 use mathlib.Core.List.{[], _∷_, map}
+use Prim.Native.Nat.{ℕ}
 use Rattle.laws.specs.Refusal.{refusal}
 use Rattle.list_rules.specs.Limits.{entriesGood, thetaGood, qGood, qLarge}
 use Rattle.list_rules.specs.Frequencies.{listFault}
 use Rattle.list_rules.specs.Quality.{inputSentences}
+
+-- the refusal of a q beside a list and a theta that are good
+abbrev pub refusalOfQ : ℕ → ℕ → ℕ
+refusalOfQ qn qd = refusal (inputSentences (1 ∷ []) 1 qn qd)
 
 pub record Worked : Type 0 where
   pub entries : map entriesGood (0 ∷ 1 ∷ 65536 ∷ 65537 ∷ []) ≡ false ∷ true ∷ true ∷ false ∷ []
@@ -25,18 +30,12 @@ pub record Worked : Type 0 where
       refusal (inputSentences [] 0 1001 1)
       ∷ refusal (inputSentences (1073741824 ∷ []) 0 1001 1)
       ∷ refusal (inputSentences (1 ∷ []) 0 1001 1)
-      ∷ refusal (inputSentences (1 ∷ []) 1 1001 1)
-      ∷ refusal (inputSentences (1 ∷ []) 1 15 1)
-      ∷ refusal (inputSentences (1 ∷ []) 1 124 100)
+      ∷ refusalOfQ 1001 1
+      ∷ refusalOfQ 15 1
+      ∷ refusalOfQ 124 100
       ∷ []
       ≡ 1 ∷ 3 ∷ 4 ∷ 5 ∷ 24 ∷ 5 ∷ []
-  -- of q about 8: 15/10, 8/1, 80/10, 1000/125, 9/1 and 1000/124
+  -- 15/10, and q about 8
   pub slips :
-      refusal (inputSentences (1 ∷ []) 1 15 10)
-      ∷ refusal (inputSentences (1 ∷ []) 1 8 1)
-      ∷ refusal (inputSentences (1 ∷ []) 1 80 10)
-      ∷ refusal (inputSentences (1 ∷ []) 1 1000 125)
-      ∷ refusal (inputSentences (1 ∷ []) 1 9 1)
-      ∷ refusal (inputSentences (1 ∷ []) 1 1000 124)
-      ∷ []
+      refusalOfQ 15 10 ∷ refusalOfQ 8 1 ∷ refusalOfQ 80 10 ∷ refusalOfQ 1000 125 ∷ refusalOfQ 9 1 ∷ refusalOfQ 1000 124 ∷ []
       ≡ 0 ∷ 0 ∷ 0 ∷ 0 ∷ 24 ∷ 24 ∷ []
