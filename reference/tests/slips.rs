@@ -5,12 +5,13 @@ use reference::check::{check, Verdict};
 use reference::coding::code_for;
 use reference::estimate::estimate;
 use reference::fits::Sort;
+use reference::generate::directed::bucket;
 use reference::generate::lists::{any_q, bound, some_list, KINDS};
 use reference::generate::slips::{about_most, some_q, LAST_QD, WIDE};
 use reference::generate::Random;
 use reference::list::{Bound, COUNT_LIMIT, MOST_ENTRIES, MOST_THETA};
 use reference::sheet::printed;
-use reference::words::{find, read, write, Bucket, Histogram};
+use reference::words::{find, read, write, Histogram};
 
 /// Each with what a build by it is refused with, 0 being taken.
 const QS: [((u32, u32), u32); 19] = [
@@ -46,12 +47,8 @@ fn q(qn: u32, qd: u32) -> Bound {
 
 /// A histogram of one bucket for each entry.
 fn bucket_for_each(d: u32, bound: Bound, class: u32, total: u32) -> Vec<u32> {
-    let bucket = |start| {
-        let mut bucket = Bucket::empty(start, true);
-        (bucket.widths[0], bucket.classes[0], bucket.total) = (1, class, total);
-        bucket
-    };
-    write(&Histogram::new(bound, (0..d).map(bucket).collect()))
+    let buckets = (0..d).map(|start| bucket(start, &[(1, class)], true, total)).collect();
+    write(&Histogram::new(bound, buckets))
 }
 
 #[test]
