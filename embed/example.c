@@ -1,4 +1,5 @@
-/* Builds the histogram of a list of four entries, checks it, estimates three ranges and finds a bucket. */
+/* Builds the histogram of a list of four entries, checks it, estimates three ranges, one by one and as a worksheet, and
+ * finds a bucket. */
 #include <inttypes.h>
 #include <qh.h>
 #include <stdio.h>
@@ -14,8 +15,9 @@ static int refused(const char *call, uint32_t refusal) {
 
 int main(void) {
     const uint32_t freqs[ENTRIES] = {10, 10, 10, 10};
-    const uint32_t ranges[3][2] = {{1, 3}, {0, 3}, {0, 4}};
+    const uint32_t ranges[] = {1, 3, 0, 3, 0, 4}; /* two numbers each */
     uint32_t words[QH_WORDS_FOR(ENTRIES)];
+    uint64_t totals[QH_TOTALS_FOR(ENTRIES)], answers[3];
 
     QhBuilt built = qh_build(freqs, ENTRIES, 1, 3, 2, words, QH_WORDS_FOR(ENTRIES));
     if (refused("qh_build", built.refusal)) {
@@ -29,13 +31,23 @@ int main(void) {
     }
     printf("%s\n", verdict.accepted ? "accepted" : "not accepted");
 
-    for (int i = 0; i < 3; i++) {
-        QhEstimate answer = qh_estimate(words, built.words, ranges[i][0], ranges[i][1]);
+    for (int i = 0; i < 6; i += 2) {
+        QhEstimate answer = qh_estimate(words, built.words, ranges[i], ranges[i + 1]);
         if (refused("qh_estimate", answer.refusal)) {
             return 1;
         }
-        printf("%" PRIu32 " to %" PRIu32 ": %" PRIu64 "\n", ranges[i][0], ranges[i][1], answer.estimate);
+        printf("%" PRIu32 " to %" PRIu32 ": %" PRIu64 "\n", ranges[i], ranges[i + 1], answer.estimate);
     }
+
+    QhFilled filled = qh_fill_totals(words, built.words, totals, QH_TOTALS_FOR(ENTRIES));
+    if (refused("qh_fill_totals", filled.refusal)) {
+        return 1;
+    }
+    QhAnswered sheet = qh_answer_worksheet(words, built.words, totals, filled.places, ranges, 6, answers, 3);
+    if (refused("qh_answer_worksheet", sheet.refusal)) {
+        return 1;
+    }
+    printf("as a worksheet: %" PRIu64 " %" PRIu64 " %" PRIu64 "\n", answers[0], answers[1], answers[2]);
 
     QhFound found = qh_find(words, built.words, 3);
     if (refused("qh_find", found.refusal)) {

@@ -13,6 +13,7 @@
 
 #define MARK 0xA5 /* in every byte of a list that is lent to be written */
 #define MARKED_WORD UINT32_C(0xA5A5A5A5)
+#define MARKED_PLACE UINT64_C(0xA5A5A5A5A5A5A5A5)
 #define LIST(array) array, sizeof array / sizeof *array
 
 static size_t passed, failed;
@@ -28,6 +29,11 @@ static const uint32_t zeros[] = {3, 1, 0xC02, 1, 0x40000203, 0x80000000, 0x80000
 static const uint32_t two[] = { /* of words_rules/specs/Worked.antt: two buckets, of the entries 0 to 3 and 4 to 9 */
     10, 1, 0xC02, 2, 0x40000201, 0x810C4140, 0x80000500, 0xC0040201, 0xC0000000,
     0x40001001, 0x881C0180, 0x80000801, 0xC0000200, 0xC0000000};
+
+static const uint32_t three[] = { /* of estimate_rules/specs/Worked.antt: three buckets of four entries */
+    12, 1, 0xC02, 3, 0x40000204, 0x8B000000, 0x80000500, 0xC0000000, 0xC0000000,
+    0x40001204, 0x8B000000, 0x80000640, 0xC0000000, 0xC0000000,
+    0x40002204, 0x8B000000, 0x80000780, 0xC0000000, 0xC0000000};
 
 static void figure(const char *what, const char *part, uint64_t expected, uint64_t got) {
     if (got == expected) {
@@ -165,6 +171,86 @@ static void estimates(void) {
     estimated("3 to 5 of two", qh_estimate(LIST(two), 3, 5), (QhEstimate){.estimate = 7});
 }
 
+static uint64_t places[8];
+
+/* Compares what was written into places, also past it, and marks them for the next. */
+static void placed(const char *what, size_t count, const uint64_t *expected) {
+    for (size_t i = 0; i < sizeof places / sizeof *places; i++) {
+        figure_at(what, "place", i, i < count ? expected[i] : MARKED_PLACE, places[i]);
+    }
+    memset(places, MARK, sizeof places);
+}
+
+static void filled(const char *what, QhFilled got, QhFilled expected, const uint64_t *totals) {
+    figure(what, "refusal", expected.refusal, got.refusal);
+    figure(what, "places", expected.places, got.places);
+    placed(what, expected.places, totals);
+}
+
+static void answered(const char *what, QhAnswered got, QhAnswered expected, const uint64_t *estimates) {
+    figure(what, "refusal", expected.refusal, got.refusal);
+    figure(what, "answers", expected.answers, got.answers);
+    placed(what, expected.answers, estimates);
+}
+
+/* Lends no place beside words of two with one of them changed: the fault of the words comes first. */
+static void words_first(const char *what, size_t place, uint32_t word, uint32_t refusal) {
+    uint32_t words[sizeof two / sizeof *two];
+    memcpy(words, two, sizeof two);
+    words[place] = word;
+    filled(what, qh_fill_totals(LIST(words), places, 0), (QhFilled){.refusal = refusal}, NULL);
+    answered(what, qh_answer_worksheet(LIST(words), places, 0, words, 3, places, 0),
+             (QhAnswered){.refusal = refusal}, NULL);
+}
+
+/* "filled" and those that begin with "sheet" of estimate_rules/specs/Worked.antt, and each fault of words before 19. */
+static void worksheets(void) {
+    const uint64_t totals[] = {0, 40, 90, 150, 3}, first_wrong[] = {1, 40, 90, 150}, last_wrong[] = {0, 40, 90, 149};
+    const uint32_t sheet[] = {1, 11, 0, 12, 5, 6, 3, 8, 7, 7}, turned[] = {0, 1, 3, 2}, past[] = {0, 1, 12, 13};
+    const uint64_t estimates[] = {101, 150, 9, 59, 0};
+    memset(places, MARK, sizeof places);
+    filled("the totals of three", qh_fill_totals(LIST(three), LIST(places)), (QhFilled){.places = 4}, totals);
+    filled("three places for four", qh_fill_totals(LIST(three), places, 3),
+           (QhFilled){.refusal = QH_REFUSED_PLACES}, NULL);
+    filled("the totals of eighteen words", qh_fill_totals(three, 18, places, 0),
+           (QhFilled){.refusal = QH_REFUSED_WORD_COUNT}, NULL);
+    filled("the totals of q 9/1", qh_fill_totals(LIST(q_9), places, 0), (QhFilled){.refusal = QH_REFUSED_LARGE_Q}, NULL);
+    answered("the sheet", qh_answer_worksheet(LIST(three), totals, 4, LIST(sheet), places, 5),
+             (QhAnswered){.answers = 5}, estimates);
+    answered("a place after those needed", qh_answer_worksheet(LIST(three), LIST(totals), LIST(sheet), LIST(places)),
+             (QhAnswered){.answers = 5}, estimates);
+    answered("the empty sheet", qh_answer_worksheet(LIST(three), LIST(totals), sheet, 0, places, 0),
+             (QhAnswered){.answers = 0}, NULL);
+    answered("three totals for four", qh_answer_worksheet(LIST(three), first_wrong, 3, LIST(sheet), LIST(places)),
+             (QhAnswered){.refusal = QH_REFUSED_PLACES}, NULL);
+    answered("four places for five", qh_answer_worksheet(LIST(three), LIST(first_wrong), LIST(sheet), places, 4),
+             (QhAnswered){.refusal = QH_REFUSED_PLACES}, NULL);
+    answered("a wrong first total", qh_answer_worksheet(LIST(three), LIST(first_wrong), sheet, 3, LIST(places)),
+             (QhAnswered){.refusal = QH_REFUSED_TOTALS}, NULL);
+    answered("a wrong last total", qh_answer_worksheet(LIST(three), LIST(last_wrong), LIST(sheet), LIST(places)),
+             (QhAnswered){.refusal = QH_REFUSED_TOTALS}, NULL);
+    answered("a word left over", qh_answer_worksheet(LIST(three), LIST(totals), sheet, 3, places, 1),
+             (QhAnswered){.refusal = QH_REFUSED_WORKSHEET}, NULL);
+    answered("a word left over and no place", qh_answer_worksheet(LIST(three), LIST(totals), sheet, 3, places, 0),
+             (QhAnswered){.refusal = QH_REFUSED_PLACES}, NULL);
+    answered("3 to 2 at last", qh_answer_worksheet(LIST(three), LIST(totals), LIST(turned), LIST(places)),
+             (QhAnswered){.refusal = QH_REFUSED_WORKSHEET}, NULL);
+    answered("12 to 13 at last", qh_answer_worksheet(LIST(three), LIST(totals), LIST(past), LIST(places)),
+             (QhAnswered){.refusal = QH_REFUSED_WORKSHEET}, NULL);
+    words_first("theta 0 and no place", 1, 0, QH_REFUSED_HEAD);
+    words_first("q 15/1 and no place", 2, 0x3C01, QH_REFUSED_LARGE_Q);
+    words_first("three buckets and no place", 3, 3, QH_REFUSED_WORD_COUNT);
+    words_first("another kind and no place", 9, 0x80001001, QH_REFUSED_BUCKET_WORD);
+    words_first("an equal start and no place", 9, 0x40000001, QH_REFUSED_START);
+    words_first("wide widths and no place", 4, 0x40000202, QH_REFUSED_WIDTH);
+    words_first("class 63 and no place", 5, 0xBF3C4140, QH_REFUSED_CODE);
+    filled("no word", qh_fill_totals(three, 0, places, 0), (QhFilled){.refusal = QH_REFUSED_HEAD}, NULL);
+    answered("no word", qh_answer_worksheet(three, 0, totals, 0, sheet, 3, places, 0),
+             (QhAnswered){.refusal = QH_REFUSED_HEAD}, NULL);
+    answered("eighteen words", qh_answer_worksheet(three, 18, totals, 0, LIST(sheet), places, 0),
+             (QhAnswered){.refusal = QH_REFUSED_WORD_COUNT}, NULL);
+}
+
 static void found(const char *what, QhFound got, QhFound expected) {
     figure(what, "refusal", expected.refusal, got.refusal);
     figure(what, "at", expected.at, got.at);
@@ -179,7 +265,7 @@ static void found_changed(const char *what, size_t place, uint32_t word, uint32_
 }
 
 /* "places" and "faults" of words_rules/specs/Worked.antt, and of its other faults one of each sentence. */
-static void places(void) {
+static void buckets(void) {
     found("entry 3 of two", qh_find(LIST(two), 3), (QhFound){.at = 4});
     found("entry 4 of two", qh_find(LIST(two), 4), (QhFound){.at = 9});
     found("entry 10 of two", qh_find(LIST(two), 10), (QhFound){.refusal = QH_REFUSED_ENTRY});
@@ -223,7 +309,8 @@ int main(void) {
     builds();
     verdicts();
     estimates();
-    places();
+    worksheets();
+    buckets();
     sheets();
     printf("%zu passed, %zu failed\n", passed, failed);
     return failed != 0;

@@ -83,6 +83,65 @@ static void try_check(const uint32_t *list, size_t list_len, const uint32_t *len
     judge("qh_check", v.refusal, fails || (none && v.accepted == (v.refusal == 0)));
 }
 
+static bool marked(const void *from, const void *to) {
+    const uint8_t *byte = from, *end = to;
+    while (byte < end && *byte == MARK) {
+        byte++;
+    }
+    return byte == end;
+}
+
+/* Lends a call places between guards, all marked. */
+static uint64_t *lent_places(size_t len) {
+    size_t size = (len + 2 * GUARD) * sizeof(uint64_t);
+    uint64_t *block = lent(size);
+    memset(block, MARK, size);
+    return block + GUARD;
+}
+
+/* Whether of these places only the first are written. */
+static bool kept(const uint64_t *out, size_t len, size_t written) {
+    return written <= len && marked(out - GUARD, out) && marked(out + written, out + len + GUARD);
+}
+
+/* Answers a worksheet of the first so many ends, each answer compared with that of the single call. */
+static void try_worksheet(const uint32_t *list, size_t len, const uint64_t *totals, size_t totals_len,
+                          const uint32_t *ends, size_t number, size_t out_len) {
+    uint32_t *sheet = copied(ends, number * sizeof *ends);
+    uint64_t *out = lent_places(out_len);
+    QhAnswered answer = qh_answer_worksheet(list, len, totals, totals_len, sheet, number, out, out_len);
+    bool as_said = kept(out, out_len, answer.answers) && answer.answers == (answer.refusal == 0 ? number / 2 : 0);
+    for (size_t i = 0; as_said && i < answer.answers; i++) {
+        QhEstimate single = qh_estimate(list, len, sheet[2 * i], sheet[2 * i + 1]);
+        as_said = single.refusal == 0 && single.estimate == out[i];
+    }
+    judge("qh_answer_worksheet", answer.refusal, as_said);
+    free(sheet);
+    free(out - GUARD);
+}
+
+/* Fills running totals into so many places, and answers worksheets with these and with wrong ones. */
+static void try_totals(const uint32_t *list, size_t len, size_t out_len) {
+    const uint32_t d = (uint32_t)volume, ends[] = {0, 1, 0, d, 1, d - 1, 3, 2}, beyond[] = {0, 1, d, UINT32_MAX};
+    uint64_t *out = lent_places(out_len);
+    QhFilled filled = qh_fill_totals(list, len, out, out_len);
+    bool counted = filled.places == (filled.refusal == 0 ? (size_t)list[3] + 1 : 0);
+    judge("qh_fill_totals", filled.refusal, counted && kept(out, out_len, filled.places));
+    uint64_t *totals = copied(out, filled.places * sizeof *totals);
+    for (size_t n = 0; n <= sizeof ends / sizeof *ends; n++) {
+        try_worksheet(list, len, totals, filled.places, ends, n, n / 2);
+    }
+    try_worksheet(list, len, totals, filled.places, beyond, 4, 2);
+    try_worksheet(list, len, totals, filled.places, ends, 6, 2);
+    try_worksheet(list, len, out, out_len, ends, 6, 4); /* with the marks after them */
+    if (filled.places > 0) {
+        totals[random_word() % filled.places]++;
+        try_worksheet(list, len, totals, filled.places, ends, 6, 3);
+    }
+    free(totals);
+    free(out - GUARD);
+}
+
 /* Every call that takes words. */
 static void try_words(const uint32_t *from, size_t len) {
     uint32_t *list = copied(from, len * sizeof *from);
@@ -93,15 +152,9 @@ static void try_words(const uint32_t *from, size_t len) {
     try_range(list, len, 0, (uint32_t)volume);
     try_check(freqs, volume, list, len);
     try_check(list, len, list, len);
+    try_totals(list, len, len / 5 + 1);
+    try_totals(list, len, random_word() % 8);
     free(list);
-}
-
-static bool marked(const void *from, const void *to) {
-    const uint8_t *byte = from, *end = to;
-    while (byte < end && *byte == MARK) {
-        byte++;
-    }
-    return byte == end;
 }
 
 /* Builds into a list between guards, and checks what was built. */
@@ -144,7 +197,7 @@ static void numbers(void) {
     }
 }
 
-static void empty_list(uint32_t *list, uint8_t *bytes) {
+static void empty_list(uint32_t *list, uint64_t *places, uint8_t *bytes) {
     uint8_t *out = lent(QH_SHEET_BYTES);
     QhBuilt built = qh_build(list, 0, 1, 3, 2, list, 0);
     judge("qh_build of no list", built.refusal, built.refusal == QH_REFUSED_LIST_LENGTH && built.words == 0);
@@ -154,6 +207,17 @@ static void empty_list(uint32_t *list, uint8_t *bytes) {
     try_check(list, 0, words, words_len);
     try_check(freqs, volume, list, 0);
     try_range(list, 0, 0, 0);
+    QhFilled filled = qh_fill_totals(words, words_len, places, 0);
+    judge("qh_fill_totals into no list", filled.refusal, filled.refusal == QH_REFUSED_PLACES && filled.places == 0);
+    QhAnswered answer = qh_answer_worksheet(list, 0, places, 0, list, 0, places, 0);
+    judge("qh_answer_worksheet of no list", answer.refusal, answer.refusal == QH_REFUSED_HEAD && answer.answers == 0);
+    answer = qh_answer_worksheet(words, words_len, places, 0, list, 0, places, 0);
+    judge("qh_answer_worksheet with no list", answer.refusal, answer.refusal == QH_REFUSED_PLACES && answer.answers == 0);
+    uint64_t *totals = lent(words_len * sizeof *totals);
+    filled = qh_fill_totals(words, words_len, totals, words_len);
+    answer = qh_answer_worksheet(words, words_len, totals, filled.places, list, 0, places, 0);
+    judge("qh_answer_worksheet of no range", answer.refusal, answer.refusal == 0 && answer.answers == 0);
+    free(totals);
     bool is_refused = qh_sheet(bytes, 0, out) == 11 && memcmp(out, "refused 18\n", 11) == 0;
     judge("qh_sheet of no input", QH_REFUSED_INPUT, is_refused);
     free(out);
@@ -161,12 +225,12 @@ static void empty_list(uint32_t *list, uint8_t *bytes) {
 
 static void empty_lists(void) {
     void *list = lent(0);
-    empty_list((uint32_t *)list, (uint8_t *)list);
+    empty_list((uint32_t *)list, (uint64_t *)list, (uint8_t *)list);
     free(list);
 }
 
 static void null_lists(void) {
-    empty_list(NULL, NULL);
+    empty_list(NULL, NULL, NULL);
 }
 
 static void ranges(void) {
@@ -254,6 +318,7 @@ static void long_lists(void) {
         memcpy(list, words, words_len * sizeof *list);
         try_check(freqs, volume, list, LONG_LEN);
         try_range(list, LONG_LEN, 0, 1);
+        try_totals(list, LONG_LEN, 8);
         free(list);
     }
 }

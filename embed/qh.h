@@ -3,8 +3,9 @@
  * not small. To be linked with libqh.a.
  *
  * An e-book reader carries one ordered list of word forms, each with the number of times it occurs. qh_build makes a
- * small histogram of the list; qh_estimate then says from that alone about how many hits a range of forms has.
- * qh_check tells whether a histogram is fit for a list, and qh_find which of its buckets holds an entry.
+ * small histogram of the list; qh_estimate then says from that alone about how many hits a range of forms has, and
+ * qh_answer_worksheet does so for many ranges at once. qh_check tells whether a histogram is fit for a list, and qh_find
+ * which of its buckets holds an entry.
  *
  * The terms
  *   entry      the place of a word form in the list, 0 to d - 1, where d is the length of the list
@@ -15,6 +16,9 @@
  *   bucket     a stretch of the list with a total, in eight bucketlets, each with a number for its entries together
  *   histogram  a list of words, four at the head and five for each bucket (the repository's docs/METHOD.md, "Words").
  *              They are numbers: a program that stores them as bytes must see to the byte order itself.
+ *   running    kept beside a histogram for worksheets, 64 bits each: at place i the sum of the numbers that the totals of
+ *   totals     the buckets before bucket i stand for, and one last place for all
+ *   worksheet  a list of ranges, two numbers each: the x and the y of the first, those of the second, and so on
  *
  * How close they come
  *   The histograms of qh_build, and all others that qh_check accepts for the list, keep this for every range within
@@ -29,7 +33,7 @@
  *     order given at the call. Where it is not 0, all else in the result is 0 and no lent list has changed. qh_sheet
  *     alone has no such field: it writes the number of its refusal into the sheet.
  *   - Every list is the caller's before, during and after the call: a pointer to the first of so many elements. Only
- *     the list `out` of qh_build and of qh_sheet is written, and only as far as its result says.
+ *     the list `out` of a call is written, and only as far as its result says.
  *   - Nothing is kept between calls and no memory is allocated, so threads may call at once. Of the C library only
  *     memcpy and memset are used.
  *
@@ -71,7 +75,7 @@ extern "C" {
 /* The length of the list `out` of qh_sheet, in bytes. */
 #define QH_SHEET_BYTES 163840
 
-/* The refusals by name. The numbers 2 and 19 to 23 have no sentence. */
+/* The refusals by name. The numbers 2, 22 and 23 have no sentence. */
 enum {
     QH_REFUSED_LIST_LENGTH = 1,
     QH_REFUSED_SUM = 3,
@@ -90,6 +94,9 @@ enum {
     QH_REFUSED_COUNT = 16,
     QH_REFUSED_READING = 17,
     QH_REFUSED_INPUT = 18,
+    QH_REFUSED_PLACES = 19,
+    QH_REFUSED_TOTALS = 20,
+    QH_REFUSED_WORKSHEET = 21,
     QH_REFUSED_LARGE_Q = 24
 };
 
@@ -113,6 +120,9 @@ static inline const char *qh_sentence(uint32_t refusal) {
     case QH_REFUSED_COUNT: return "A count to be coded, as class or total, is above 1,073,741,823.";
     case QH_REFUSED_READING: return "A class to be read is 2, 63 or above, or a total code to be read is not valid.";
     case QH_REFUSED_INPUT: return "The input is not theta, qn, qd and 1 to 4,096 frequencies: decimal numbers below 4,294,967,296 without leading zeros, one a line, each line ended by a line feed.";
+    case QH_REFUSED_PLACES: return "The list of running totals has fewer places than the buckets plus one, or that of answers fewer than half the worksheet's length, rounded down.";
+    case QH_REFUSED_TOTALS: return "A running total is not the sum of what the totals of the buckets before its place stand for.";
+    case QH_REFUSED_WORKSHEET: return "The worksheet's length is odd, or in one of its ranges x is above y, or y is above d.";
     case QH_REFUSED_LARGE_Q: return "q is above 8.";
     default: return NULL;
     }
@@ -164,6 +174,33 @@ typedef struct {
  * other bucketlets that do, and the share of each bucketlet that it cuts, all in one sum that is rounded up, and 1 where
  * the sum is 0; but 0 if the range is empty. Refused with 7, 24, 8 to 12, then 14. */
 QhEstimate qh_estimate(const uint32_t *words, size_t words_len, uint32_t x, uint32_t y);
+
+typedef struct {
+    uint32_t refusal;
+    size_t places; /* how many running totals stand in out */
+} QhFilled;
+
+/* The most places that the running totals of qh_build's histogram of d entries have: one for each bucket, of which there
+ * is one for each eight entries and one for the rest, and one more. Words of another make have words[3] + 1, which may be
+ * up to d + 1. */
+#define QH_TOTALS_FOR(d) ((size_t)1 + ((size_t)(d) + 7) / 8)
+
+/* Writes the running totals of a histogram to the start of out; what stands after them is as it was. Refused with 7, 24,
+ * 8 to 12, then 19. */
+QhFilled qh_fill_totals(const uint32_t *words, size_t words_len, uint64_t *out, size_t out_len);
+
+typedef struct {
+    uint32_t refusal;
+    size_t answers; /* how many estimates stand in out */
+} QhAnswered;
+
+/* Writes what qh_estimate answers for each range of a worksheet, in their order, to the start of out; what stands after
+ * the answers is as it was. An out of worksheet_len / 2 places is never too short. The histogram and its running totals,
+ * as qh_fill_totals writes them, are tested once; places after those needed are not read. After that a range costs two
+ * searches by halving and no walk over the buckets between its ends. An empty worksheet has no answers. Refused with 7,
+ * 24, 8 to 12, then 19, 20 and 21. */
+QhAnswered qh_answer_worksheet(const uint32_t *words, size_t words_len, const uint64_t *totals, size_t totals_len,
+                               const uint32_t *worksheet, size_t worksheet_len, uint64_t *out, size_t out_len);
 
 typedef struct {
     uint32_t refusal;

@@ -72,6 +72,36 @@ pub unsafe extern "C" fn qh_find(words: *const u32, length: usize, entry: u32) -
 }
 
 /// # Safety
+/// As above.
+#[no_mangle]
+pub unsafe extern "C" fn qh_fill_totals(
+    words: *const u32,
+    length: usize,
+    lent: *mut u64,
+    lent_length: usize,
+) -> QhFilled {
+    REFERENCE.fill_totals(from_raw_parts(words, length), from_raw_parts_mut(lent, lent_length))
+}
+
+/// # Safety
+/// As above.
+#[no_mangle]
+pub unsafe extern "C" fn qh_answer_worksheet(
+    words: *const u32,
+    length: usize,
+    totals: *const u64,
+    totals_length: usize,
+    worksheet: *const u32,
+    worksheet_length: usize,
+    lent: *mut u64,
+    lent_length: usize,
+) -> QhAnswered {
+    let (words, totals) = (from_raw_parts(words, length), from_raw_parts(totals, totals_length));
+    let worksheet = from_raw_parts(worksheet, worksheet_length);
+    REFERENCE.answer_worksheet(words, totals, worksheet, from_raw_parts_mut(lent, lent_length))
+}
+
+/// # Safety
 /// As above, with exactly `SHEET_BYTES` bytes lent.
 #[no_mangle]
 pub unsafe extern "C" fn qh_sheet(input: *const u8, length: usize, lent: *mut u8) -> usize {

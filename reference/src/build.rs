@@ -161,14 +161,13 @@ pub fn histogram(way: Way, frequencies: &[u32], bound: Bound) -> Result<Histogra
     Ok(Histogram::new(bound, buckets))
 }
 
-/// Writes words into a lent list and answers their number; refusal 6.
-pub fn lend(words: &[u32], lent: &mut [u32]) -> Result<usize, u32> {
-    let place = lent.get_mut(..words.len()).ok_or(6u32)?;
-    place.copy_from_slice(words);
-    Ok(words.len())
+/// Writes a list to the start of a lent one and answers its length, if that is long enough.
+pub fn lend<T: Copy>(list: &[T], lent: &mut [T]) -> Option<usize> {
+    lent.get_mut(..list.len())?.copy_from_slice(list);
+    Some(list.len())
 }
 
 /// Builds into a lent list; refusals 1, 3 to 5, 24 and 6.
 pub fn build(way: Way, frequencies: &[u32], bound: Bound, lent: &mut [u32]) -> Result<usize, u32> {
-    lend(&write(&histogram(way, frequencies, bound)?), lent)
+    lend(&write(&histogram(way, frequencies, bound)?), lent).ok_or(6)
 }

@@ -58,13 +58,15 @@ pub fn exact_of(buckets: &[Bucket], x: u32, y: u32) -> Fraction {
     sum
 }
 
+/// Whether a range lies within the list, which 14 and 21 ask.
+pub fn lies_within(histogram: &Histogram, x: u32, y: u32) -> bool {
+    x <= y && y <= histogram.head.d
+}
+
 /// The refusals of reading, then 14.
 pub fn asked(words: &[u32], x: u32, y: u32) -> Result<Histogram, u32> {
     let histogram = read(words)?;
-    if x > y || y > histogram.head.d {
-        return Err(14);
-    }
-    Ok(histogram)
+    lies_within(&histogram, x, y).then_some(histogram).ok_or(14)
 }
 
 /// The estimate of a range that lies within the list. Only the empty range is estimated at 0.

@@ -1,5 +1,5 @@
-//! A reference for document 01 with requests (iv) and (v) of document 02, written from their text
-//! and meant to be read beside it, and the comparison of another program with it.
+//! A reference for document 01 with requests (i), (iv) and (v) of document 02, written from their
+//! text and meant to be read beside it, and the comparison of another program with it.
 
 // The sections of document 01.
 pub mod big;
@@ -11,6 +11,9 @@ pub mod fits;
 pub mod list;
 pub mod sheet;
 pub mod words;
+
+// Request (i) of document 02.
+pub mod worksheet;
 
 // Demand 3.
 pub mod demand;

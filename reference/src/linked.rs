@@ -44,6 +44,17 @@ extern "C" {
     fn qh_check(frequencies: *const u32, length: usize, words: *const u32, words_length: usize) -> QhVerdict;
     fn qh_estimate(words: *const u32, length: usize, x: u32, y: u32) -> QhEstimate;
     fn qh_find(words: *const u32, length: usize, entry: u32) -> QhFound;
+    fn qh_fill_totals(words: *const u32, length: usize, lent: *mut u64, lent_length: usize) -> QhFilled;
+    fn qh_answer_worksheet(
+        words: *const u32,
+        length: usize,
+        totals: *const u64,
+        totals_length: usize,
+        worksheet: *const u32,
+        worksheet_length: usize,
+        lent: *mut u64,
+        lent_length: usize,
+    ) -> QhAnswered;
     fn qh_sheet(input: *const u8, length: usize, lent: *mut u8) -> usize;
 }
 
@@ -83,6 +94,18 @@ impl Program for Linked<'_> {
 
     fn find(&self, words: &[u32], entry: u32) -> QhFound {
         unsafe { qh_find(words.as_ptr(), words.len(), entry) }
+    }
+
+    fn fill_totals(&self, words: &[u32], lent: &mut [u64]) -> QhFilled {
+        unsafe { qh_fill_totals(words.as_ptr(), words.len(), lent.as_mut_ptr(), lent.len()) }
+    }
+
+    fn answer_worksheet(&self, words: &[u32], totals: &[u64], worksheet: &[u32], lent: &mut [u64]) -> QhAnswered {
+        let (list, length) = (words.as_ptr(), words.len());
+        let (sums, sums_length) = (totals.as_ptr(), totals.len());
+        let (ranges, ranges_length) = (worksheet.as_ptr(), worksheet.len());
+        let (answers, places) = (lent.as_mut_ptr(), lent.len());
+        unsafe { qh_answer_worksheet(list, length, sums, sums_length, ranges, ranges_length, answers, places) }
     }
 
     fn sheet(&self, input: &[u8], lent: &mut Sheet) -> usize {

@@ -48,6 +48,15 @@ pub fn count(part: &[u32]) -> u64 {
     part.iter().map(|&frequency| u64::from(frequency)).sum()
 }
 
+/// The sum of the numbers before each place, and of all at one last place.
+pub fn running_sums(numbers: impl Iterator<Item = u64>) -> Vec<u64> {
+    let mut sums = vec![0];
+    for number in numbers {
+        sums.push(sums[sums.len() - 1] + number);
+    }
+    sums
+}
+
 /// Refusals 1 and 3; a frequency of 0 is none.
 pub fn list_fault(frequencies: &[u32]) -> Result<(), u32> {
     if frequencies.is_empty() || frequencies.len() > MOST_ENTRIES {

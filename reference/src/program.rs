@@ -8,6 +8,7 @@ use crate::fits::Sort;
 use crate::list::Bound;
 use crate::sheet::printed;
 use crate::words::find;
+use crate::worksheet::{answer_worksheet, fill_totals};
 
 /// A refusal is 0 where there is none, and all else is 0 where there is one.
 #[repr(C)]
@@ -50,6 +51,21 @@ pub struct QhFound {
     pub at: usize,
 }
 
+/// How many places have running totals.
+#[repr(C)]
+#[derive(Clone, Copy, Debug, Default, PartialEq, Eq)]
+pub struct QhFilled {
+    pub refusal: u32,
+    pub places: usize,
+}
+
+#[repr(C)]
+#[derive(Clone, Copy, Debug, Default, PartialEq, Eq)]
+pub struct QhAnswered {
+    pub refusal: u32,
+    pub answers: usize,
+}
+
 /// How many bytes are lent for what the listing program prints.
 pub const SHEET_BYTES: usize = 163_840;
 
@@ -71,6 +87,8 @@ pub trait Program {
     fn check(&self, frequencies: &[u32], words: &[u32]) -> QhVerdict;
     fn estimate(&self, words: &[u32], x: u32, y: u32) -> QhEstimate;
     fn find(&self, words: &[u32], entry: u32) -> QhFound;
+    fn fill_totals(&self, words: &[u32], lent: &mut [u64]) -> QhFilled;
+    fn answer_worksheet(&self, words: &[u32], totals: &[u64], worksheet: &[u32], lent: &mut [u64]) -> QhAnswered;
     fn sheet(&self, input: &[u8], lent: &mut Sheet) -> usize;
 
     /// The listing program run on an input. It prints the bytes of a sheet, and explains a refusal.
@@ -83,32 +101,25 @@ pub trait Program {
     }
 }
 
-impl From<Result<u32, u32>> for QhCoded {
-    fn from(answer: Result<u32, u32>) -> QhCoded {
-        let (refusal, value) = parted(answer);
-        QhCoded { refusal, value }
-    }
+/// A refusal beside one value.
+macro_rules! from_answer {
+    ($($answer:ident: $value:ident $type:ty,)*) => {
+        $(impl From<Result<$type, u32>> for $answer {
+            fn from(answer: Result<$type, u32>) -> $answer {
+                let (refusal, $value) = parted(answer);
+                $answer { refusal, $value }
+            }
+        })*
+    };
 }
 
-impl From<Result<usize, u32>> for QhBuilt {
-    fn from(answer: Result<usize, u32>) -> QhBuilt {
-        let (refusal, words) = parted(answer);
-        QhBuilt { refusal, words }
-    }
-}
-
-impl From<Result<u64, u32>> for QhEstimate {
-    fn from(answer: Result<u64, u32>) -> QhEstimate {
-        let (refusal, estimate) = parted(answer);
-        QhEstimate { refusal, estimate }
-    }
-}
-
-impl From<Result<usize, u32>> for QhFound {
-    fn from(answer: Result<usize, u32>) -> QhFound {
-        let (refusal, at) = parted(answer);
-        QhFound { refusal, at }
-    }
+from_answer! {
+    QhCoded: value u32,
+    QhBuilt: words usize,
+    QhEstimate: estimate u64,
+    QhFound: at usize,
+    QhFilled: places usize,
+    QhAnswered: answers usize,
 }
 
 impl From<Result<Verdict, u32>> for QhVerdict {
@@ -174,6 +185,14 @@ impl Program for Reference {
         // The place of the part in the list that it is a part of.
         let place = |five: &[u32]| (five.as_ptr() as usize - words.as_ptr() as usize) / 4;
         find(words, entry).map(place).into()
+    }
+
+    fn fill_totals(&self, words: &[u32], lent: &mut [u64]) -> QhFilled {
+        fill_totals(words, lent).into()
+    }
+
+    fn answer_worksheet(&self, words: &[u32], totals: &[u64], worksheet: &[u32], lent: &mut [u64]) -> QhAnswered {
+        answer_worksheet(words, totals, worksheet, lent).into()
     }
 
     fn sheet(&self, input: &[u8], lent: &mut Sheet) -> usize {

@@ -34,10 +34,11 @@ fn expect_found(fault: Fault, call: &'static str) {
 
 #[test]
 fn every_fault_is_found_in_its_call_and_nowhere_else() {
-    // In halves, since this takes longer than all other tests together.
+    // In halves, by turns, since this takes longer than all other tests together.
     std::thread::scope(|scope| {
-        for half in FAULTS.chunks(FAULTS.len().div_ceil(2)) {
-            scope.spawn(|| half.iter().for_each(|&(fault, call)| expect_found(fault, call)));
+        for first in 0..2 {
+            let half = FAULTS.iter().skip(first).step_by(2);
+            scope.spawn(|| half.for_each(|&(fault, call)| expect_found(fault, call)));
         }
     });
 }

@@ -8,6 +8,7 @@ mod lists;
 mod print;
 mod reply;
 mod word_cases;
+mod worksheet_cases;
 
 fn main() {
     count_cases::run();
@@ -15,4 +16,5 @@ fn main() {
     build_cases::run();
     check_cases::run();
     estimate_cases::run();
+    worksheet_cases::run();
 }

@@ -1,19 +1,22 @@
 -- Laws of asking (specs/Asking.antt): what the 1 for a sum of 0 is, and a range within a readable list is answered with its
 -- estimate.
 -- Assumes nothing.
-use mathlib.Core.Path.{_≡_, refl, ap, _∙_}
+use mathlib.Core.Path.{_≡_, refl, sym, ap, _∙_}
 use mathlib.Core.Bool.{Bool, true, false, cond, not, _&&_}
 use mathlib.Core.List.{List, [], _∷_}
-use mathlib.Core.Logic.{_⊎_, inl, inr, ⊎-elim}
-use Prim.Native.Nat.{ℕ, _≤_, _<_, max}
+use mathlib.Core.Logic.{_⊎_, inl, inr}
+use Prim.Native.Nat.{ℕ, _≤_, max}
 use native.Mathlib.Omega.{arith}
-use borrow.Author.Tests.{le-ltb, lt-ltb, eqb-true, eqb-false, eq-eqb, ne-eqb}
+use borrow.Author.Tests.{le-ltb, eqb-true, eqb-false, eq-eqb, ne-eqb}
 use lib.Dec.{ltb, eqb}
 use Rattle.laws.specs.Reply.{answered, refused}
-use Rattle.laws.proofs.Tests.{neither, holds-left, holds-right}
+use Rattle.laws.proofs.Tests.{neither}
 use Rattle.laws.proofs.RefusalLaws.{numbered, none-left, passed, append-passed, append-refused, append-first, refused as refused-at}
 use Rattle.words_rules.specs.Words.{entries}
 use Rattle.words_rules.specs.Reading.{readSentences, readFault, Readable}
+use Rattle.estimate_rules.specs.declared.Fraction.{Fraction}
+use Rattle.estimate_rules.specs.Fraction.{rounded}
+use Rattle.estimate_rules.specs.Exact.{exact}
 use Rattle.estimate_rules.specs.Asking.{rangeFault, askFault, raised, estimate, estimateReply}
 
 -- ---- the 1 for a sum of 0
@@ -42,6 +45,11 @@ module _ (x y n : ℕ) where
       go true e = omega (arith, eqb-true n 0 e)
       go false e = let z = eqb-false n 0 e in omega arith
 
+-- so the estimate is its sum, rounded up, or 1
+pub estimate-some : (ws : List ℕ) (x y n : ℕ) (e : Fraction) → (x ≡ y → ⊥) → n ≡ max 1 (rounded e) → e ≡ exact ws x y → n ≡ estimate ws x y
+unfolding estimate
+estimate-some ws x y n e d p q = p ∙ ap (λ (f : Fraction). max 1 (rounded f)) q ∙ sym (raised-some x y (rounded (exact ws x y)) d)
+
 -- ---- what is answered
 
 module _ (ws : List ℕ) (x y : ℕ) where
@@ -49,12 +57,18 @@ module _ (ws : List ℕ) (x y : ℕ) where
   unfolding numbered
   list-first h = append-refused (readSentences ws) (record { number = 14; holds = rangeFault ws x y } ∷ []) refl h
 
-  pub range-refused : Readable ws → (y < x) ⊎ (entries ws < y) → askFault ws x y ≡ 14
-  unfolding numbered rangeFault
-  range-refused r h =
+  pub range-refused : Readable ws → rangeFault ws x y ≡ true → askFault ws x y ≡ 14
+  unfolding numbered
+  range-refused r t =
       append-passed (readSentences ws) (record { number = 14; holds = rangeFault ws x y } ∷ []) refl r
-      ∙ refused-at (record { number = 14; holds = rangeFault ws x y }) []
-      (⊎-elim (λ (l : y < x). holds-left (ltb y x) (ltb (entries ws) y) (lt-ltb y x l)) (λ (l : entries ws < y). holds-right (ltb y x) (ltb (entries ws) y) (lt-ltb (entries ws) y l)) h)
+      ∙ refused-at (record { number = 14; holds = rangeFault ws x y }) [] t
+
+  pub range-passed : Readable ws → rangeFault ws x y ≡ false → askFault ws x y ≡ 0
+  unfolding numbered
+  range-passed r f =
+      append-passed (readSentences ws) (record { number = 14; holds = rangeFault ws x y } ∷ []) refl r
+      ∙ passed (record { number = 14; holds = rangeFault ws x y }) [] f
+      ∙ none-left
 
   pub asked-readable : askFault ws x y ≡ 0 → Readable ws
   unfolding numbered
@@ -74,11 +88,7 @@ module _ (ws : List ℕ) (x y : ℕ) (readable : Readable ws) (ordered : x ≤ y
   in-list = neither (ltb y x) (ltb (entries ws) y) (le-ltb y x ordered) (le-ltb (entries ws) y ends)
 
   pub no-fault : askFault ws x y ≡ 0
-  unfolding numbered
-  no-fault =
-      append-passed (readSentences ws) (record { number = 14; holds = rangeFault ws x y } ∷ []) refl readable
-      ∙ passed (record { number = 14; holds = rangeFault ws x y }) [] in-list
-      ∙ none-left
+  no-fault = range-passed ws x y readable in-list
 
   pub reply-is : estimateReply ws x y ≡ answered (estimate ws x y)
   reply-is = reply-answered ws x y no-fault

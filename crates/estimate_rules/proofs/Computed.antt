@@ -10,7 +10,9 @@ use Rattle.words_rules.specs.Reading.{headGood, headFault, largeQFault, lengthF
 use Rattle.estimate_rules.specs.Fraction.{sumOf, rounded}
 use Rattle.estimate_rules.specs.Exact.{piece, bucketPiece, exact}
 use Rattle.estimate_rules.specs.Asking.{rangeFault, raised, estimate, estimateReply}
-use Rattle.estimate_rules.specs.Worked.{Worked}
+use Rattle.estimate_rules.specs.Running.{totalsFrom, runningTotal, fillReply, totalsFilled}
+use Rattle.estimate_rules.specs.Worksheet.{shortFault, totalsFault, rangesFault, worksheetReply, worksheetAnswered}
+use Rattle.estimate_rules.specs.Worked.{Worked, WorkedSheets}
 
 pub worked : Worked
 unfolding each some refusal first largest root classNumber middle totalNumber validFields decode headGood headFault largeQFault lengthFault wordsBroken wordFault startFault widthsBroken widthFault classBroken totalBroken codesBroken codeFault sumOf rounded piece bucketPiece exact rangeFault raised estimate estimateReply
@@ -36,4 +38,25 @@ worked =
       beside-zeros = refl;
       narrower = refl;
       wider = refl;
+    }
+
+pub worked-sheets : WorkedSheets
+unfolding each some refusal first largest root classNumber middle totalNumber validFields decode headGood headFault largeQFault lengthFault wordsBroken wordFault startFault widthsBroken widthFault classBroken totalBroken codesBroken codeFault sumOf rounded piece bucketPiece exact rangeFault raised estimate totalsFrom runningTotal fillReply totalsFilled shortFault totalsFault rangesFault worksheetReply worksheetAnswered
+worked-sheets =
+    record {
+      running-totals = refl;
+      difference = refl;
+      filled = refl;
+      not-filled = refl;
+      fill-replies = refl;
+      fill-words-first = refl;
+      sheet-answered = refl;
+      sheet-refused = refl;
+      sheet-totals = refl;
+      sheet-short = refl;
+      sheet-room = refl;
+      sheet-odd = refl;
+      sheet-ranges = refl;
+      sheet-empty = refl;
+      sheet-order = refl;
     }

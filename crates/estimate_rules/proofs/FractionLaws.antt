@@ -6,7 +6,7 @@ use Prim.Native.Nat.{ℕ, zero, suc, _+_, _-_, _*_, _≤_, _<_}
 use native.Mathlib.Nat.{div-mul-le-self, lt-div-mul-add, eq-or-lt-of-le, le-of-suc-le-suc, mul-le-mul-right, lt-of-mul-lt-mul-right}
 use native.Mathlib.Omega.{arith}
 use Rattle.estimate_rules.specs.declared.Fraction.{Fraction}
-use Rattle.estimate_rules.specs.Fraction.{nothing, plus, numerator, sumOf, rounded}
+use Rattle.estimate_rules.specs.Fraction.{number, nothing, plus, numerator, sumOf, rounded}
 
 -- rounded e is the least whole number that is not below e
 
@@ -32,14 +32,29 @@ same a b p q r = λ i. record { whole = p i; top = q i; bottom = r i }
 pub plus-nothing : (e : Fraction) → plus e nothing ≡ e
 plus-nothing e = same (plus e nothing) e (omega arith) (omega arith) (omega arith)
 
-nothing-plus : (e : Fraction) → plus nothing e ≡ e
+pub nothing-plus : (e : Fraction) → plus nothing e ≡ e
 nothing-plus e = same (plus nothing e) e (omega arith) (omega arith) (omega arith)
+
+-- two whole numbers are added as one
+pub plus-numbers : (e : Fraction) (m n : ℕ) → plus (plus e (number m)) (number n) ≡ plus e (number (m + n))
+plus-numbers e m n = same (plus (plus e (number m)) (number n)) (plus e (number (m + n))) (omega arith) (omega arith) (omega arith)
 
 pub sum-none : (n : ℕ) (f : ℕ → Fraction) → ((i : ℕ) → i < n → f i ≡ nothing) → sumOf n f ≡ nothing
 unfolding sumOf
 sum-none zero f h = refl
 sum-none (suc n) f h =
     ap (λ (e : Fraction). plus e (f n)) (sum-none n f (λ i l. h i (omega arith))) ∙ nothing-plus (f n) ∙ h n (omega arith)
+
+-- terms that are nothing at the end
+pub sum-rest : (n m : ℕ) (f : ℕ → Fraction) → m ≤ n → ((i : ℕ) → m ≤ i → i < n → f i ≡ nothing) → sumOf n f ≡ sumOf m f
+unfolding sumOf
+sum-rest zero m f l h = ap (λ (k : ℕ). sumOf k f) {x = 0} {y = m} (omega arith)
+sum-rest (suc n) m f l h =
+    ⊎-elim
+    (λ (e : m ≡ suc n). ap (λ (k : ℕ). sumOf k f) (sym e))
+    (λ (b : m < suc n).
+    ap (plus (sumOf n f)) (h n (omega arith) (omega arith)) ∙ plus-nothing (sumOf n f) ∙ sum-rest n m f (le-of-suc-le-suc b) (λ i k g. h i k (omega arith)))
+    (eq-or-lt-of-le l)
 
 -- where all terms but one are nothing the sum is that one
 pub sum-one : (n : ℕ) (f : ℕ → Fraction) (j : ℕ) → j < n → ((i : ℕ) → i < n → (i ≡ j → ⊥) → f i ≡ nothing) → sumOf n f ≡ f j

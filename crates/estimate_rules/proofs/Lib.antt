@@ -4,5 +4,7 @@ pub mod ExactLaws
 pub mod AskingLaws
 pub mod CutLaws
 pub mod SpanLaws
+pub mod RunningLaws
+pub mod WorksheetLaws
 pub mod SizeLaws
 pub mod Proved

@@ -6,22 +6,21 @@ use Prim.Native.Nat.{ℕ, _+_, _*_, _^_, _≤_, _<_}
 use native.Mathlib.Nat.{mul-le-mul-right, le-trans, pow-le-pow-right}
 use native.Mathlib.Omega.{arith}
 use Rattle.laws.specs.Reply.{answered}
-use Rattle.laws.proofs.Tests.{is-false}
 use Rattle.words_rules.specs.Limits.{maxWidth}
-use Rattle.words_rules.specs.Words.{entries, buckets, start, end}
-use Rattle.words_rules.specs.Decoded.{bucketAt, bucketletStart, widthAt, numberAt}
+use Rattle.words_rules.specs.Words.{entries, buckets}
 use Rattle.words_rules.specs.Reading.{Readable}
 use Rattle.words_rules.proofs.Proved.{histogram}
 use Rattle.estimate_rules.specs.declared.Fraction.{Fraction}
-use Rattle.estimate_rules.specs.Fraction.{nothing, numerator, rounded}
-use Rattle.estimate_rules.specs.Exact.{inside, bucketletPiece, bucketPiece, exact}
+use Rattle.estimate_rules.specs.Fraction.{numerator, rounded}
+use Rattle.estimate_rules.specs.Exact.{bucketPiece, exact}
 use Rattle.estimate_rules.specs.Asking.{raised, estimate, estimateReply}
-use Rattle.estimate_rules.specs.Claims.{Sizes, RoundedUp, Estimates}
+use Rattle.estimate_rules.specs.Claims.{Sizes, RoundedUp, Estimates, RunningTotals, Worksheets}
 use Rattle.estimate_rules.proofs.FractionLaws.{rounded-reaches, rounded-most, sum-none}
-use Rattle.estimate_rules.proofs.ExactLaws.{inside-says, piece-none, bucket-parts}
 use Rattle.estimate_rules.proofs.AskingLaws.{raised-or, raised-empty, raised-some, reply-is}
 use Rattle.estimate_rules.proofs.CutLaws.{cuts, cuts-most}
-use Rattle.estimate_rules.proofs.SpanLaws.{exact-holds}
+use Rattle.estimate_rules.proofs.SpanLaws.{bucket-none, exact-holds}
+use Rattle.estimate_rules.proofs.RunningLaws.{joined, difference, running-small, by-totals}
+use Rattle.estimate_rules.proofs.WorksheetLaws.{filled-fits, filled-past, filled-length, each-single, totals-past, totals-past-answers, answers-past, answers-length, empty as empty-sheet}
 use Rattle.estimate_rules.proofs.SizeLaws.{Sized, sized-joined, bucketlet-sized, total-sized}
 
 rounded-up : (e : Fraction) → 0 < e .bottom → RoundedUp e (rounded e)
@@ -82,21 +81,35 @@ unfolding estimate
 never-0 ws x y h = omega (arith, raised-some x y (rounded (exact ws x y)) (λ e. omega arith))
 
 module _ (ws : List ℕ) (readable : Readable ws) (x : ℕ) where
-  bucket-empty : (b : ℕ) → b < buckets ws → bucketPiece ws x x b ≡ nothing
-  bucket-empty b h =
-      let some = histogram .tiles ws readable .not-empty b h in
-      let r = bucketAt ws b in
-      let out = is-false (inside x x (start ws b) (end ws b))
-      (λ t. omega (arith, inside-says x x (start ws b) (end ws b) t)) in
-      bucket-parts ws x x b out
-      ∙ sum-none 8 (bucketletPiece x x r) (λ j l. piece-none x x (bucketletStart r j) (widthAt r j) (numberAt r j) (omega arith))
-
   pub none : estimate ws x x ≡ 0
   unfolding exact estimate rounded
-  none = raised-empty x x (rounded (exact ws x x)) refl ∙ ap rounded (sum-none (buckets ws) (bucketPiece ws x x) bucket-empty)
+  none = raised-empty x x (rounded (exact ws x x)) refl ∙ ap rounded (sum-none (buckets ws) (bucketPiece ws x x) (λ b h. bucket-none ws readable x x b h (omega arith)))
 
   empty : x ≤ entries ws → estimateReply ws x x ≡ answered 0
   empty h = reply-is ws x x readable (omega arith) h ∙ ap answered none
 
 pub estimates : Estimates
 estimates = record { rounded-up = rounded-up; sum-rounded-up = sum-rounded-up; never-0 = never-0; sum-of-0 = sum-of-0; sizes = sizes; empty = empty }
+
+pub running : RunningTotals
+running =
+    record {
+      joined = joined;
+      difference = difference;
+      small = running-small;
+      filled-fits = λ ws r old. filled-fits ws old r;
+      filled-past = filled-past;
+      filled-length = filled-length;
+    }
+
+pub worksheets : Worksheets
+worksheets =
+    record {
+      by-totals = by-totals;
+      each-single = each-single;
+      totals-past = totals-past;
+      totals-past-answers = totals-past-answers;
+      answers-past = answers-past;
+      answers-length = answers-length;
+      empty = empty-sheet;
+    }

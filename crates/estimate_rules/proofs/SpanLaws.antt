@@ -11,17 +11,19 @@ use native.Mathlib.Omega.{arith}
 use borrow.Author.Tests.{lt-ltb, le-ltb}
 use lib.Dec.{ltb}
 use Rattle.laws.proofs.SumsLaws.{prefix-suc, prefix-all}
-use Rattle.laws.proofs.Tests.{tested}
+use Rattle.laws.proofs.Tests.{tested, is-false}
 use Rattle.counts_rules.specs.Total.{totalNumber}
 use Rattle.words_rules.specs.declared.Bucket.{Bucket}
 use Rattle.words_rules.specs.Words.{entries, buckets, start, end}
-use Rattle.words_rules.specs.Decoded.{decode, bucketAt, bucketletStart, bucketletEnd}
+use Rattle.words_rules.specs.Decoded.{decode, bucketAt, bucketletStart, bucketletEnd, widthAt, numberAt}
 use Rattle.words_rules.specs.Reading.{Readable}
 use Rattle.words_rules.proofs.Proved.{histogram}
+use Rattle.words_rules.proofs.EntryLaws.{bucketlet-end}
 use Rattle.estimate_rules.specs.declared.Fraction.{Fraction}
 use Rattle.estimate_rules.specs.Fraction.{number, nothing, plus, sumOf}
-use Rattle.estimate_rules.specs.Exact.{inside, bucketletPiece, bucketPiece, exact}
-use Rattle.estimate_rules.proofs.ExactLaws.{bucket-whole, bucket-parts}
+use Rattle.estimate_rules.specs.Exact.{inside, overlap, bucketletPiece, bucketPiece, exact}
+use Rattle.estimate_rules.proofs.FractionLaws.{sum-none}
+use Rattle.estimate_rules.proofs.ExactLaws.{inside-says, piece-none, bucket-whole, bucket-parts}
 use Rattle.estimate_rules.proofs.CutLaws.{rises}
 
 -- bucketlets follow one another, from the start of their bucket to its end
@@ -37,6 +39,18 @@ pub last-bucketlet : (ws : List ℕ) → Readable ws → (b : ℕ) → b < bucke
 last-bucketlet ws r b h =
     let k = histogram .holds ws r b h .in-range in
     omega (arith, k .ends, prefix-all 8 (bucketAt ws b .widths) (omega (arith, k .eight-widths)))
+
+pub bucketlet-within : (ws : List ℕ) → Readable ws → (b : ℕ) → b < buckets ws → (k : ℕ) → k ≤ 8 → bucketletStart (bucketAt ws b) k ≤ end ws b
+bucketlet-within ws r b h k l = omega (arith, rises (bucketletStart (bucketAt ws b)) k 8 (λ j g. bucketlets-rise (bucketAt ws b) j) l, last-bucketlet ws r b h)
+
+-- a bucket of which the range holds no entry gives nothing
+pub bucket-none : (ws : List ℕ) → Readable ws → (x y b : ℕ) → b < buckets ws → overlap x y (start ws b) (end ws b) ≡ 0 → bucketPiece ws x y b ≡ nothing
+bucket-none ws readable x y b h z =
+    let r = bucketAt ws b in
+    bucket-parts ws x y b (is-false _ (λ t. omega (arith, inside-says x y (start ws b) (end ws b) t, histogram .tiles ws readable .not-empty b h)))
+    ∙ sum-none 8 (bucketletPiece x y r) (λ k l.
+    piece-none x y (bucketletStart r k) (widthAt r k) (numberAt r k)
+    (omega (arith, z, bucketlet-end r k, bucketlet-within ws readable b h (suc k) (omega arith), first-bucketlet ws b, rises (bucketletStart r) 0 k (λ j g. bucketlets-rise r j) (omega arith))))
 
 -- where bucket b starts, and d where there is none
 abbrev pub edge : List ℕ → ℕ → ℕ

@@ -1,16 +1,21 @@
--- What is claimed of estimates; proofs/Proved.antt proves it.
+-- What is claimed of estimates, of running totals and of worksheets; proofs/Proved.antt proves it.
 -- Assumes nothing.
 use mathlib.Core.Path.{_≡_}
-use mathlib.Core.List.{List}
-use Prim.Native.Nat.{ℕ, _*_, _^_, _≤_, _<_}
+use mathlib.Core.Bool.{false}
+use mathlib.Core.List.{List, []}
+use Prim.Native.Nat.{ℕ, _+_, _-_, _*_, _^_, _≤_, _<_}
+use lib.ListN.{length, take}
 use Rattle.laws.specs.Reply.{answered}
 use Rattle.words_rules.specs.Limits.{maxWidth}
-use Rattle.words_rules.specs.Words.{entries}
+use Rattle.words_rules.specs.Words.{word, entries, buckets}
 use Rattle.words_rules.specs.Reading.{Readable}
+use Rattle.words_rules.specs.Finding.{bucketOf}
 use Rattle.estimate_rules.specs.declared.Fraction.{Fraction}
-use Rattle.estimate_rules.specs.Fraction.{numerator, rounded}
-use Rattle.estimate_rules.specs.Exact.{exact}
+use Rattle.estimate_rules.specs.Fraction.{number, plus, numerator, rounded}
+use Rattle.estimate_rules.specs.Exact.{bucketPiece, exact}
 use Rattle.estimate_rules.specs.Asking.{estimate, estimateReply}
+use Rattle.estimate_rules.specs.Running.{totalsFrom, runningTotal, totalPlaces, totalsFilled}
+use Rattle.estimate_rules.specs.Worksheet.{rangeCount, xAt, yAt, totalsFault, worksheetFault, worksheetReply, worksheetAnswered}
 
 -- the numbers of the sum, and so the answer, are far below 2^64, as the whole parts stay outside the common denominator
 pub record Sizes (ws : List ℕ) (x y : ℕ) : Type 0 where
@@ -37,3 +42,34 @@ pub record Estimates : Type 0 where
   pub sizes : (ws : List ℕ) → Readable ws → (x y : ℕ) → Sizes ws x y
   -- the empty range gives 0, wherever it lies
   pub empty : (ws : List ℕ) → Readable ws → (x : ℕ) → x ≤ entries ws → estimateReply ws x x ≡ answered 0
+
+pub record RunningTotals : Type 0 where
+  -- the sum of the totals of buckets a to b, without b, is what the running total at b is above that at a
+  pub joined : (ws : List ℕ) (a n : ℕ) → runningTotal ws (a + n) ≡ runningTotal ws a + totalsFrom ws a n
+  pub difference : (ws : List ℕ) (a b : ℕ) → a ≤ b → totalsFrom ws a (b - a) ≡ runningTotal ws b - runningTotal ws a
+  -- far below 2^64
+  pub small : (ws : List ℕ) → Readable ws → (i : ℕ) → i ≤ buckets ws → runningTotal ws i < 2 ^ 48
+  -- what is filled in is not refused with 20
+  pub filled-fits : (ws : List ℕ) → Readable ws → (old : List ℕ) → totalPlaces ws ≤ length old → totalsFault ws (totalsFilled ws old) ≡ false
+  -- places past those needed are as they were, and there are as many
+  pub filled-past : (ws old : List ℕ) (i : ℕ) → totalPlaces ws ≤ i → word (totalsFilled ws old) i ≡ word old i
+  pub filled-length : (ws old : List ℕ) → length (totalsFilled ws old) ≡ length old
+
+-- the sum of a range from x to y, by the buckets of its first and its last entry
+pub record ByTotals (ws : List ℕ) (x y : ℕ) : Type 0 where
+  pub within-one : bucketOf ws x ≡ bucketOf ws (y - 1) → exact ws x y ≡ bucketPiece ws x y (bucketOf ws x)
+  pub over-several : bucketOf ws x < bucketOf ws (y - 1)
+      → exact ws x y ≡ plus (plus (bucketPiece ws x y (bucketOf ws x)) (number (runningTotal ws (bucketOf ws (y - 1)) - runningTotal ws (bucketOf ws x + 1)))) (bucketPiece ws x y (bucketOf ws (y - 1)))
+
+pub record Worksheets : Type 0 where
+  pub by-totals : (ws : List ℕ) → Readable ws → (x y : ℕ) → x < y → y ≤ entries ws → ByTotals ws x y
+  -- each answer is that of the single call
+  pub each-single : (ws totals sheet old : List ℕ) → worksheetFault ws totals sheet (length old) ≡ 0 → (i : ℕ) → i < rangeCount sheet
+      → estimateReply ws (xAt sheet i) (yAt sheet i) ≡ answered (word (worksheetAnswered ws totals sheet old) i)
+  -- places past those needed: of the running totals none is read, of the answers none is written, and there are as many
+  pub totals-past : (ws totals sheet : List ℕ) (lent : ℕ) → worksheetReply ws (take (totalPlaces ws) totals) sheet lent ≡ worksheetReply ws totals sheet lent
+  pub totals-past-answers : (ws totals sheet old : List ℕ) → worksheetAnswered ws (take (totalPlaces ws) totals) sheet old ≡ worksheetAnswered ws totals sheet old
+  pub answers-past : (ws totals sheet old : List ℕ) (i : ℕ) → rangeCount sheet ≤ i → word (worksheetAnswered ws totals sheet old) i ≡ word old i
+  pub answers-length : (ws totals sheet old : List ℕ) → length (worksheetAnswered ws totals sheet old) ≡ length old
+  -- the empty sheet
+  pub empty : (ws totals : List ℕ) → Readable ws → totalPlaces ws ≤ length totals → totalsFault ws totals ≡ false → (lent : ℕ) → worksheetReply ws totals [] lent ≡ answered 0

@@ -30,10 +30,14 @@ piece x y a w s =
 abbrev pub bucketletPiece : ℕ → ℕ → Bucket → ℕ → Fraction
 bucketletPiece x y r k = piece x y (bucketletStart r k) (widthAt r k) (numberAt r k)
 
+-- the number that the total of bucket b stands for
+abbrev pub totalAt : List ℕ → ℕ → ℕ
+totalAt ws b = totalNumber (bucketAt ws b .total)
+
 -- bucket b: its total if it lies wholly inside, otherwise its bucketlets
 unfoldable pub bucketPiece : List ℕ → ℕ → ℕ → ℕ → Fraction
 bucketPiece ws x y b =
-    cond (inside x y (start ws b) (end ws b)) (number (totalNumber (bucketAt ws b .total))) (sumOf 8 (bucketletPiece x y (bucketAt ws b)))
+    cond (inside x y (start ws b) (end ws b)) (number (totalAt ws b)) (sumOf 8 (bucketletPiece x y (bucketAt ws b)))
 
 unfoldable pub exact : List ℕ → ℕ → ℕ → Fraction
 exact ws x y = sumOf (buckets ws) (bucketPiece ws x y)

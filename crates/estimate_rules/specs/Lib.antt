@@ -1,5 +1,7 @@
 pub mod Fraction
 pub mod Exact
 pub mod Asking
+pub mod Running
+pub mod Worksheet
 pub mod Claims
 pub mod Worked

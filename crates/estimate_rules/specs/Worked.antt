@@ -1,12 +1,14 @@
--- The starred examples of estimates (document 01, "Examples"), and ranges that tell the natural missteps apart.
+-- The starred examples of estimates (document 01, "Examples"), ranges that tell the natural missteps apart, and running totals and worksheets.
 -- Assumes nothing.
 use mathlib.Core.Path.{_≡_}
-use mathlib.Core.List.{List, [], _∷_}
+use mathlib.Core.List.{List, [], _∷_, map}
 use Prim.Native.Nat.{ℕ, _+_, _*_, _^_}
 use lib.ListN.{take, set}
-use Rattle.laws.specs.Reply.{answered, refused}
+use Rattle.laws.specs.Reply.{Reply, answered, refused}
 use Rattle.words_rules.specs.Worked.{tens, gaps, zeros, two}
 use Rattle.estimate_rules.specs.Asking.{estimateReply}
+use Rattle.estimate_rules.specs.Running.{totalsFrom, runningTotals, fillReply, totalsFilled}
+use Rattle.estimate_rules.specs.Worksheet.{worksheetReply, worksheetAnswered}
 
 -- two bucketlets of width 3 and number 4, with the total 9
 abbrev pub thirds : List ℕ
@@ -19,6 +21,15 @@ elevens = 4 ∷ 1 ∷ 0xC02 ∷ 1 ∷ 0x40000201 ∷ 0x88208040 ∷ 0x80000440 �
 -- 0, 0, 0, 10: the zeros in a bucketlet of their own
 abbrev pub late : List ℕ
 late = 4 ∷ 1 ∷ 0xC02 ∷ 1 ∷ 0x40000203 ∷ 0x801C0000 ∷ 0x80000140 ∷ 0xC0040000 ∷ 0xC0000000 ∷ []
+
+-- three buckets of four entries, each with a bucketlet that stands for 34, and the totals 40, 50 and 60
+abbrev pub three : List ℕ
+three =
+    12 ∷ 1 ∷ 0xC02 ∷ 3
+    ∷ 0x40000204 ∷ 0x8B000000 ∷ 0x80000500 ∷ 0xC0000000 ∷ 0xC0000000
+    ∷ 0x40001204 ∷ 0x8B000000 ∷ 0x80000640 ∷ 0xC0000000 ∷ 0xC0000000
+    ∷ 0x40002204 ∷ 0x8B000000 ∷ 0x80000780 ∷ 0xC0000000 ∷ 0xC0000000
+    ∷ []
 
 pub record Worked : Type 0 where
   pub one-to-three : estimateReply tens 1 3 ≡ answered 17
@@ -50,3 +61,53 @@ pub record Worked : Type 0 where
   -- totals replace sums of classes, so a wider range may be estimated lower
   pub narrower : estimateReply elevens 0 3 ≡ answered 36
   pub wider : estimateReply elevens 0 4 ≡ answered 34
+
+-- the running totals of three
+abbrev totals : List ℕ
+totals = 0 ∷ 40 ∷ 90 ∷ 150 ∷ []
+
+abbrev sheet : List ℕ
+sheet = 1 ∷ 11 ∷ 0 ∷ 12 ∷ 5 ∷ 6 ∷ 3 ∷ 8 ∷ 7 ∷ 7 ∷ []
+
+-- what is replied of three to other running totals, another sheet and room for its answers
+
+abbrev withTotals : List ℕ → Reply
+withTotals rs = worksheetReply three rs sheet 5
+
+abbrev withSheet : List ℕ → ℕ → Reply
+withSheet s lent = worksheetReply three totals s lent
+
+pub record WorkedSheets : Type 0 where
+  -- one place more than there are buckets: before the first nothing, at last all
+  pub running-totals : runningTotals tens ∷ runningTotals three ∷ [] ≡ (0 ∷ 40 ∷ []) ∷ totals ∷ []
+  -- of buckets 1 and 2
+  pub difference : totalsFrom three 1 2 ≡ 110
+  -- four places are written, and a fifth and a sixth stay; three are too few, and stay
+  pub filled : totalsFilled three (1 ∷ 2 ∷ 3 ∷ 4 ∷ 5 ∷ 6 ∷ []) ≡ 0 ∷ 40 ∷ 90 ∷ 150 ∷ 5 ∷ 6 ∷ []
+  pub not-filled : totalsFilled three (1 ∷ 2 ∷ 3 ∷ []) ≡ 1 ∷ 2 ∷ 3 ∷ []
+  pub fill-replies : map (fillReply three) (6 ∷ 4 ∷ 3 ∷ 0 ∷ []) ≡ answered 4 ∷ answered 4 ∷ refused 19 ∷ refused 19 ∷ []
+  -- a fault of the words comes first
+  pub fill-words-first : fillReply [] 0 ∷ fillReply (take 18 three) 0 ∷ fillReply (set three 2 (9 * 2 ^ 10 + 1)) 0 ∷ [] ≡ refused 7 ∷ refused 8 ∷ refused 24 ∷ []
+  -- 51/2 + 50 + 51/2, where two ends rounded by themselves give 102; all three totals; 17/2; 17/2 + 50; and the empty range
+  pub sheet-answered : worksheetAnswered three totals sheet (1 ∷ 2 ∷ 3 ∷ 4 ∷ 5 ∷ 6 ∷ 7 ∷ []) ≡ 101 ∷ 150 ∷ 9 ∷ 59 ∷ 0 ∷ 6 ∷ 7 ∷ []
+  pub sheet-refused : worksheetAnswered three totals (1 ∷ 11 ∷ 3 ∷ 2 ∷ []) (1 ∷ 2 ∷ 3 ∷ []) ≡ 1 ∷ 2 ∷ 3 ∷ []
+  -- places of running totals that are not needed may hold anything, and one that is needed its running total alone: 20
+  pub sheet-totals :
+      map withTotals (totals ∷ (0 ∷ 40 ∷ 90 ∷ 150 ∷ 3 ∷ []) ∷ (1 ∷ 40 ∷ 90 ∷ 150 ∷ []) ∷ (0 ∷ 40 ∷ 91 ∷ 150 ∷ []) ∷ (0 ∷ 40 ∷ 90 ∷ 149 ∷ []) ∷ [])
+      ≡ answered 5 ∷ answered 5 ∷ refused 20 ∷ refused 20 ∷ refused 20 ∷ []
+  -- too few, one of them wrong or not: 19
+  pub sheet-short : map withTotals ((0 ∷ 40 ∷ 90 ∷ []) ∷ (1 ∷ 40 ∷ 90 ∷ []) ∷ [] ∷ []) ≡ refused 19 ∷ refused 19 ∷ refused 19 ∷ []
+  pub sheet-room : withSheet sheet 5 ∷ withSheet sheet 4 ∷ [] ≡ answered 5 ∷ refused 19 ∷ []
+  -- a word left over: 21 with room for the whole ranges, else 19
+  pub sheet-odd : withSheet (1 ∷ 3 ∷ 2 ∷ []) 1 ∷ withSheet (1 ∷ 3 ∷ 2 ∷ []) 0 ∷ withSheet (1 ∷ []) 0 ∷ [] ≡ refused 21 ∷ refused 19 ∷ refused 21 ∷ []
+  -- in the last range x above y, or y above d: 21; d itself is taken
+  pub sheet-ranges :
+      withSheet (0 ∷ 1 ∷ 3 ∷ 2 ∷ []) 2 ∷ withSheet (0 ∷ 1 ∷ 12 ∷ 13 ∷ []) 2 ∷ withSheet (0 ∷ 1 ∷ 13 ∷ 13 ∷ []) 2 ∷ withSheet (0 ∷ 1 ∷ 12 ∷ 12 ∷ []) 2 ∷ []
+      ≡ refused 21 ∷ refused 21 ∷ refused 21 ∷ answered 2 ∷ []
+  -- the empty sheet has no answers, and is refused as any other
+  pub sheet-empty : withSheet [] 0 ∷ worksheetReply three (0 ∷ []) [] 0 ∷ worksheetReply three (0 ∷ 0 ∷ 0 ∷ 0 ∷ []) [] 0 ∷ [] ≡ answered 0 ∷ refused 19 ∷ refused 20 ∷ []
+  -- 7, 24 and 8 come before 19, 19 before 20, and 20 before 21
+  pub sheet-order :
+      worksheetReply [] [] sheet 0 ∷ worksheetReply (set three 2 (9 * 2 ^ 10 + 1)) [] sheet 0 ∷ worksheetReply (take 18 three) [] sheet 0
+      ∷ worksheetReply three (1 ∷ 40 ∷ 90 ∷ 150 ∷ []) sheet 4 ∷ worksheetReply three (1 ∷ 40 ∷ 90 ∷ 150 ∷ []) (3 ∷ 2 ∷ 1 ∷ []) 1 ∷ []
+      ≡ refused 7 ∷ refused 24 ∷ refused 8 ∷ refused 19 ∷ refused 20 ∷ []

@@ -1,2 +1,3 @@
 pub mod AskLaws
 pub mod WalkLaws
+pub mod SheetLaws

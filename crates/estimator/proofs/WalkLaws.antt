@@ -1,16 +1,12 @@
 -- The walk over a bucket's bucketlets and over the buckets: what is summed so far is a sum of the definition, and it is small.
 -- Assumes nothing.
 use mathlib.Core.Path.{_≡_, refl, sym, ap, subst, _∙_}
-use mathlib.Core.Bool.{true, false}
+use mathlib.Core.Bool.{true}
 use mathlib.Core.List.{List}
 use Prim.Native.Nat.{ℕ, suc, _+_, _≤_, _<_}
 use native.Mathlib.Nat.{le-trans}
 use native.Mathlib.Omega.{arith}
-use borrow.Author.Tests.{leb-true}
-use lib.Dec.{leb}
-use Rattle.laws.proofs.Tests.{both-left, both-right, is-false}
 use Rattle.counts_rules.specs.Form.{usedClass}
-use Rattle.counts_rules.specs.Total.{totalNumber, validCode}
 use Rattle.words_rules.specs.declared.Bucket.{Bucket}
 use Rattle.words_rules.specs.Words.{buckets, start, end}
 use Rattle.words_rules.specs.Decoded.{bucketAt, classAt, bucketletStart, widthAt, numberAt}
@@ -18,12 +14,10 @@ use Rattle.words_rules.specs.Reading.{Readable}
 use Rattle.words_rules.proofs.Proved.{histogram}
 use Rattle.words_rules.proofs.EntryLaws.{bucketlet-end}
 use Rattle.estimate_rules.specs.declared.Fraction.{Fraction}
-use Rattle.estimate_rules.specs.Fraction.{number, nothing, plus, sumOf}
-use Rattle.estimate_rules.specs.Exact.{inside, overlap, piece, bucketletPiece, bucketPiece, exact}
-use Rattle.estimate_rules.proofs.FractionLaws.{sum-none}
-use Rattle.estimate_rules.proofs.ExactLaws.{piece-none, bucket-whole, bucket-parts}
+use Rattle.estimate_rules.specs.Fraction.{nothing, plus, sumOf}
+use Rattle.estimate_rules.specs.Exact.{piece, bucketletPiece, bucketPiece, exact}
 use Rattle.estimate_rules.proofs.CutLaws.{rises}
-use Rattle.estimate_rules.proofs.SpanLaws.{bucketlets-rise, first-bucketlet, last-bucketlet, edge, edges-rise, edge-last, bucketlets-hold, buckets-hold}
+use Rattle.estimate_rules.proofs.SpanLaws.{bucketlet-within, edge, edges-rise, edge-last, bucketlets-hold, buckets-hold}
 use Rattle.estimate_rules.proofs.SizeLaws.{Sized, sized-joined, bucketlet-sized, total-sized}
 use Rattle.estimator.specs.Private.Adding.{Small}
 use Rattle.estimator.proofs.AskLaws.{small-of}
@@ -60,33 +54,23 @@ module _ (ws : List ℕ) (readable : Readable ws) (x y : ℕ) where
     end-within : end ws b ≤ 65536
     end-within = le-trans (histogram .tiles ws readable .within b h) (histogram .limits ws readable .most-entries)
 
-    -- and its bucketlets within it
-    bucketlet-within : (k : ℕ) → k ≤ 8 → bucketletStart (bucketAt ws b) k ≤ end ws b
-    bucketlet-within k l = omega (arith, rises (bucketletStart (bucketAt ws b)) k 8 (λ j g. bucketlets-rise (bucketAt ws b) j) l, last-bucketlet ws readable b h)
-
     sums-small : (k : ℕ) → k ≤ 8 → Small (sumOf k (bucketletPiece x y (bucketAt ws b)))
     sums-small k l =
         small-of x y (start ws b) (bucketletStart (bucketAt ws b) k) _
         (bucketlets-hold ws readable x y (Sized x y) (sized-joined x y) (λ b j h l. bucketlet-sized ws readable x y b h j l) (λ b h t. total-sized ws readable x y b h) b k h l)
-        (omega (arith, bucketlet-within k l, end-within))
+        (omega (arith, bucketlet-within ws readable b h k l, end-within))
 
     -- of the bucket in hand
     module _ (r : Bucket) (e : r ≡ bucketAt ws b) where
       of-bucket : (P : Bucket → Type 0) → P (bucketAt ws b) → P r
       of-bucket P p = subst P (sym e) p
 
-      pub starts : (a : ℕ) → a ≡ start ws b → a ≡ bucketletStart r 0
-      starts a s = s ∙ of-bucket (λ (r : Bucket). start ws b ≡ bucketletStart r 0) (sym (first-bucketlet ws b))
-
       pub class-used : (k : ℕ) → k < 8 → usedClass (classAt r k) ≡ true
       class-used k l = of-bucket (λ (r : Bucket). usedClass (classAt r k) ≡ true) (histogram .holds ws readable b h .class-used k l)
 
-      pub total-valid : validCode (r .total) ≡ true
-      total-valid = of-bucket (λ (r : Bucket). validCode (r .total) ≡ true) (histogram .holds ws readable b h .total-valid)
-
       pub walk-within : (sum : Fraction) (a k : ℕ) → Walked r x y sum a k → k < 8 → a + widthAt r k ≤ 65536
       walk-within sum a k w l =
-          omega (arith, next-at r x y sum a k w l, end-within, of-bucket (λ (r : Bucket). bucketletStart r (suc k) ≤ end ws b) (bucketlet-within (suc k) (omega arith)))
+          omega (arith, next-at r x y sum a k w l, end-within, of-bucket (λ (r : Bucket). bucketletStart r (suc k) ≤ end ws b) (bucketlet-within ws readable b h (suc k) (omega arith)))
 
       pub walk-small : (sum : Fraction) (a k : ℕ) → Walked r x y sum a k → k < 8
           → (t : Fraction) → t ≡ piece x y a (widthAt r k) (numberAt r k) → Small (plus sum t)
@@ -94,26 +78,11 @@ module _ (ws : List ℕ) (readable : Readable ws) (x y : ℕ) where
           subst (λ (t : Fraction). Small (plus sum t)) (sym p)
           (subst Small (sym (next-sum r x y sum a k w l)) (of-bucket (λ (r : Bucket). Small (sumOf (suc k) (bucketletPiece x y r))) (sums-small (suc k) (omega arith))))
 
-      pub walk-end : (sum : Fraction) (a k : ℕ) → Walked r x y sum a k → k ≡ 8 → inside x y (start ws b) (end ws b) ≡ false → sum ≡ bucketPiece ws x y b
-      walk-end sum a k w n f =
+      pub walk-end : (sum : Fraction) (a k : ℕ) → Walked r x y sum a k → k ≡ 8 → sum ≡ sumOf 8 (bucketletPiece x y (bucketAt ws b))
+      walk-end sum a k w n =
           w .summed
           ∙ ap (λ (n : ℕ). sumOf n (bucketletPiece x y r)) n
           ∙ ap (λ (r : Bucket). sumOf 8 (bucketletPiece x y r)) e
-          ∙ sym (bucket-parts ws x y b f)
-
-      pub total-end : (n : ℕ) → n ≡ totalNumber (r .total) → inside x y (start ws b) (end ws b) ≡ true → number n ≡ bucketPiece ws x y b
-      total-end n t i = ap number (t ∙ ap (λ (r : Bucket). totalNumber (r .total)) e) ∙ sym (bucket-whole ws x y b i)
-
-    -- a bucket of which the range holds no entry gives nothing
-    pub bucket-none : overlap x y (start ws b) (end ws b) ≡ 0 → nothing ≡ bucketPiece ws x y b
-    bucket-none z =
-        let r = bucketAt ws b in
-        sym
-        (bucket-parts ws x y b
-        (is-false _ (λ t. omega (arith, leb-true x (start ws b) (both-left (leb x (start ws b)) _ t), leb-true (end ws b) y (both-right (leb x (start ws b)) _ t), histogram .tiles ws readable .not-empty b h)))
-        ∙ sum-none 8 (bucketletPiece x y r) (λ k l.
-        piece-none x y (bucketletStart r k) (widthAt r k) (numberAt r k)
-        (omega (arith, z, bucketlet-end r k, bucketlet-within (suc k) (omega arith), first-bucketlet ws b, rises (bucketletStart r) 0 k (λ j g. bucketlets-rise r j) (omega arith)))))
 
   pub buckets-small : (n : ℕ) → n ≤ buckets ws → Small (sumOf n (bucketPiece ws x y))
   buckets-small n l =

@@ -1,20 +1,47 @@
-// The estimator: from a histogram and a range, the estimated count.
+// The estimator: from a histogram and a range, the estimated count; and from a histogram, its running totals and a worksheet of ranges, those of
+// all its ranges.
 
 mod pieces;
+mod running;
+mod worksheet;
 
-use estimate_rules::Fraction;
+use pieces::answer_of;
 use pieces::exact_of;
+use running::fill_fault;
+use running::put_totals;
+use worksheet::put_answers;
+use worksheet::worksheet_fault;
 ghost use mathlib.Core.Path.{_≡_};
-ghost use Rattle.estimate_rules.specs.Fraction.{rounded};
+ghost use lib.ListN.{length};
 ghost use Rattle.words_rules.specs.Reading.{Readable};
-ghost use Rattle.estimate_rules.specs.Asking.{askFault, estimate, estimateReply};
-ghost use Rattle.estimator.specs.Asked.{askedReply, askedOf};
-ghost use Rattle.estimator.specs.Private.Adding.{Small};
+ghost use Rattle.estimate_rules.specs.Asking.{rangeFault, askFault, estimate, estimateReply};
+ghost use Rattle.estimate_rules.specs.Running.{fillReply, totalsFilled};
+ghost use Rattle.estimate_rules.specs.Worksheet.{worksheetReply, worksheetAnswered};
+ghost use Rattle.estimator.specs.Asked.{askedReply, askedOf, filledReply, filledOf, answeredReply, answeredOf};
 
 // The estimate, or the number of the refusal.
 pub enum Asked {
     Estimate(u64),
     Refused(u32),
+}
+
+// The number of places written, or the number of the refusal.
+pub enum Filled {
+    Places(usize),
+    Refused(u32),
+}
+
+// The number of answers written, or the number of the refusal.
+pub enum Answered {
+    Answers(usize),
+    Refused(u32),
+}
+
+// 14: whether x is above y, or y above the number of entries.
+pub(crate) fn range_fault(words: &[u32], x: u32, y: u32) -> bool
+    ensures { λ r. ⌜ r ≡ rangeFault (now (words .entry)) x y ⌝ }
+{
+    y < x || words::entry_count(words) < y
 }
 
 // 7, 24, 8 to 12 and 14: the first of these sentences that is true of a list and a range, else 0.
@@ -25,28 +52,18 @@ pub fn ask_fault(words: &[u32], x: u32, y: u32) -> u32
     if read != 0 {
         return read;
     }
-    if y < x {
-        return 14;
-    }
-    if words::entry_count(words) < y {
+    if range_fault(words, x, y) {
         return 14;
     }
     0
 }
 
-fn rounded_of(e: Fraction) -> u64
-    requires { ⌜ Small e ⌝ }
-    ensures { λ r. ⌜ r ≡ rounded e ⌝ }
-{
-    e.whole + (e.top + (e.bottom - 1)) / e.bottom
-}
-
-// The estimate of a range that isn't empty: one sum, rounded up once, and at least 1.
+// The estimate of a range that isn't empty.
 fn estimate_of(words: &[u32], x: u32, y: u32) -> u64
     requires { ⌜ Readable (now words) × (x ≡ y → ⊥) ⌝ }
     ensures { λ r. ⌜ r ≡ estimate (now (words .entry)) x y ⌝ }
 {
-    arithmetic::larger_of_wide(1, rounded_of(exact_of(words, x, y)))
+    answer_of(exact_of(words, x, y))
 }
 
 // The estimate of the range from x to y, 0 if it is empty.
@@ -62,4 +79,31 @@ pub fn estimate(words: &[u32], x: u32, y: u32) -> Asked
         return Asked::Estimate(0);
     }
     Asked::Estimate(estimate_of(words, x, y))
+}
+
+// Writes the running totals into the first places that are lent. Refused with 7, 24, 8 to 12 or 19, it writes nothing.
+pub fn fill_totals(words: &[u32], out: &mut [u64]) -> Filled
+    ensures { λ r. ⌜ filledReply r ≡ fillReply (now (words .entry)) (length (now (out .entry))) ⌝ }
+    ensures { λ r. ⌜ r ≡ filledOf (fillReply (now (words .entry)) (length (now (out .entry)))) ⌝ }
+    ensures { λ r. ⌜ now (out .exit) ≡ totalsFilled (now (words .entry)) (now (out .entry)) ⌝ }
+{
+    let refusal = fill_fault(words, out.len());
+    if refusal != 0 {
+        return Filled::Refused(refusal);
+    }
+    Filled::Places(put_totals(words, out))
+}
+
+// Writes the estimates of a worksheet's ranges, two words a range, into the first places that are lent. The histogram and the running totals are
+// tested once. Refused with 7, 24, 8 to 12, 19, 20 or 21, it writes nothing.
+pub fn answer_worksheet(words: &[u32], totals: &[u64], sheet: &[u32], out: &mut [u64]) -> Answered
+    ensures { λ r. ⌜ answeredReply r ≡ worksheetReply (now (words .entry)) (now (totals .entry)) (now (sheet .entry)) (length (now (out .entry))) ⌝ }
+    ensures { λ r. ⌜ r ≡ answeredOf (worksheetReply (now (words .entry)) (now (totals .entry)) (now (sheet .entry)) (length (now (out .entry)))) ⌝ }
+    ensures { λ r. ⌜ now (out .exit) ≡ worksheetAnswered (now (words .entry)) (now (totals .entry)) (now (sheet .entry)) (now (out .entry)) ⌝ }
+{
+    let number = worksheet_fault(words, totals, sheet, out.len());
+    if number != 0 {
+        return Answered::Refused(number);
+    }
+    Answered::Answers(put_answers(words, totals, sheet, out))
 }

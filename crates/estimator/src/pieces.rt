@@ -1,18 +1,19 @@
-// What the buckets and bucketlets that a range meets give to its estimate.
+// What the buckets and bucketlets that a range meets give to its estimate, and how their sum is rounded.
 
 use counts::Meaning;
 use estimate_rules::Fraction;
 ghost use mathlib.Core.Path.{_≡_};
 ghost use mathlib.Core.Bool.{true};
-ghost use Prim.Native.Nat.{_+_, _^_, _≤_, _<_};
+ghost use Prim.Native.Nat.{_+_, _^_, _≤_, _<_, max};
 ghost use Rattle.counts_rules.specs.Form.{base, usedClass};
 ghost use Rattle.counts_rules.specs.Class.{classNumber};
 ghost use Rattle.counts_rules.specs.Total.{totalNumber, validCode};
 ghost use Rattle.counts.specs.Reply.{meaningReply};
 ghost use Rattle.words_rules.specs.Words.{buckets};
+ghost use Rattle.words_rules.specs.Decoded.{bucketAt};
 ghost use Rattle.words_rules.specs.Reading.{Readable};
-ghost use Rattle.estimate_rules.specs.Fraction.{plus};
-ghost use Rattle.estimate_rules.specs.Exact.{inside, overlap, piece, bucketPiece, exact};
+ghost use Rattle.estimate_rules.specs.Fraction.{plus, rounded, sumOf};
+ghost use Rattle.estimate_rules.specs.Exact.{inside, overlap, piece, bucketletPiece, totalAt, bucketPiece, exact};
 ghost use Rattle.estimator.specs.Private.Adding.{Small, Addable};
 
 // The number that an answer of the coding holds, 0 if it is refused.
@@ -55,7 +56,7 @@ fn overlap_of(x: u32, y: u32, a: u32, e: u32) -> u32
     arithmetic::left_of(to, from)
 }
 
-fn plus(e: Fraction, f: Fraction) -> Fraction
+pub(crate) fn plus(e: Fraction, f: Fraction) -> Fraction
     requires { ⌜ Small (plus e f) ⌝ }
     ensures { λ r. ⌜ r ≡ plus e f ⌝ }
 {
@@ -64,6 +65,21 @@ fn plus(e: Fraction, f: Fraction) -> Fraction
         top: e.top * f.bottom + f.top * e.bottom,
         bottom: e.bottom * f.bottom,
     }
+}
+
+fn rounded_of(e: Fraction) -> u64
+    requires { ⌜ Small e ⌝ }
+    ensures { λ r. ⌜ r ≡ rounded e ⌝ }
+{
+    e.whole + (e.top + (e.bottom - 1)) / e.bottom
+}
+
+// The estimate of a range that isn't empty, from its sum: rounded up once, and at least 1.
+pub(crate) fn answer_of(e: Fraction) -> u64
+    requires { ⌜ Small e ⌝ }
+    ensures { λ r. ⌜ r ≡ max 1 (rounded e) ⌝ }
+{
+    arithmetic::larger_of_wide(1, rounded_of(e))
 }
 
 // What a bucketlet at a, of width w, that stands for s gives.
@@ -104,36 +120,56 @@ fn with_piece(sum: Fraction, x: u32, y: u32, a: u32, w: u32, class: u32) -> Frac
     plus(sum, piece_of(x, y, a, w, class_number(class)))
 }
 
-// What bucket b gives: its total if the range holds it, nothing if it holds no entry of it, else what its bucketlets give.
-fn bucket_piece(words: &[u32], x: u32, y: u32, b: usize) -> Fraction
+// The number that the total of bucket b stands for.
+pub(crate) fn bucket_total(words: &[u32], b: usize) -> u64
     requires { ⌜ Readable (now words) × (b < buckets (now words)) ⌝ }
-    ensures { λ r. ⌜ r ≡ bucketPiece (now (words .entry)) x y b ⌝ }
+    ensures { λ r. ⌜ r ≡ totalAt (now (words .entry)) b ⌝ }
 {
-    let start = words::start_at(words, b);
-    let end = words::end_at(words, b);
+    total_number(words::total_at(words, b))
+}
+
+// What the bucketlets of bucket b give.
+fn bucketlets_piece(words: &[u32], x: u32, y: u32, b: usize) -> Fraction
+    requires { ⌜ Readable (now words) × (b < buckets (now words)) ⌝ }
+    ensures { λ r. ⌜ r ≡ sumOf 8 (bucketletPiece x y (bucketAt (now (words .entry)) b)) ⌝ }
+{
+    let bucket = words::bucket_at(words, b);
     let mut sum = Fraction {
         whole: 0,
         top: 0,
         bottom: 1,
     };
-    if overlap_of(x, y, start, end) == 0 {
-        return sum;
-    }
-    let bucket = words::bucket_at(words, b);
-    if is_inside(x, y, start, end) {
-        return Fraction {
-            whole: total_number(bucket.total),
-            top: 0,
-            bottom: 1,
-        };
-    }
-    let mut a = start;
+    let mut a = bucket.start;
     for k in 0..8usize {
         let w = bucket.widths[k];
         sum = with_piece(sum, x, y, a, w, bucket.classes[k]);
         a += w;
     }
     sum
+}
+
+// What bucket b gives: its total if the range holds it, nothing if it holds no entry of it, else what its bucketlets give.
+pub(crate) fn bucket_piece(words: &[u32], x: u32, y: u32, b: usize) -> Fraction
+    requires { ⌜ Readable (now words) × (b < buckets (now words)) ⌝ }
+    ensures { λ r. ⌜ r ≡ bucketPiece (now (words .entry)) x y b ⌝ }
+{
+    let start = words::start_at(words, b);
+    let end = words::end_at(words, b);
+    if overlap_of(x, y, start, end) == 0 {
+        return Fraction {
+            whole: 0,
+            top: 0,
+            bottom: 1,
+        };
+    }
+    if is_inside(x, y, start, end) {
+        return Fraction {
+            whole: bucket_total(words, b),
+            top: 0,
+            bottom: 1,
+        };
+    }
+    bucketlets_piece(words, x, y, b)
 }
 
 // The sum that estimates the range, not yet rounded.

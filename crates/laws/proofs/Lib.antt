@@ -6,6 +6,7 @@ pub mod EachLaws
 pub mod RefusalLaws
 pub mod ReplyLaws
 pub mod SumsLaws
+pub mod TabulateLaws
 pub mod PaddedLaws
 pub mod FieldLaws
 pub mod GreatestLaws

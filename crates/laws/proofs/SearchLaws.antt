@@ -1,14 +1,15 @@
--- Laws of the searches (specs/Search.antt): what `first` finds, that it is the only such number, and the same of `largest` and `root`.
+-- Laws of the searches (specs/Search.antt): what `first` finds, that it is the only such number, the same of `largest` and `root`, and what halving
+-- comes to.
 -- Assumes nothing.
-use mathlib.Core.Path.{_≡_, refl, sym, ap, _∙_}
+use mathlib.Core.Path.{_≡_, refl, sym, ap, subst, _∙_}
 use mathlib.Core.Bool.{Bool, true, false, not}
-use mathlib.Core.Logic.{⊎-elim}
-use Prim.Native.Nat.{ℕ, zero, suc, _+_, _*_, _≤_, _<_}
+use mathlib.Core.Logic.{_⊎_, inl, inr, ⊎-elim}
+use Prim.Native.Nat.{ℕ, zero, suc, _+_, _-_, _*_, _/_, _≤_, _<_}
 use native.Mathlib.Nat.{eq-or-lt-of-le, le-antisymm, mul-le-mul, mul-le-mul-right, le-of-mul-le-mul-right}
 use native.Mathlib.Omega.{arith}
-use borrow.Author.Tests.{leb-true, leb-false, not-true, not-false}
+use borrow.Author.Tests.{leb-true, leb-false, lt-ltb, le-ltb, not-true, not-false}
 use lib.Dec.{leb}
-use Rattle.laws.specs.Search.{orAfter, first, largest, Root, root}
+use Rattle.laws.specs.Search.{orAfter, first, largest, halved, Root, root}
 use Rattle.laws.proofs.Tests.{true-not-false, not-holds}
 
 -- r is what a search of the k numbers from n on finds
@@ -44,6 +45,85 @@ first-unique p k n r g =
 -- so a number that passes, with none before it that does, is the one found
 pub first-eq : (p : ℕ → Bool) (k n r : ℕ) → n ≤ r → r < n + k → ((m : ℕ) → n ≤ m → m < r → p m ≡ false) → p r ≡ true → first p k n ≡ r
 first-eq p k n r g h b t = first-unique p k n r (record { from = g; within = omega arith; before = b; passes = λ _. t })
+
+-- ---- halving
+
+next-or-after : (a b : ℕ) → a < b → (b ≡ a + 1) ⊎ (a + 1 < b)
+next-or-after a b h = ⊎-elim (λ (e : suc a ≡ b). inl (omega arith)) (λ (l : suc a < b). inr (omega arith)) (eq-or-lt-of-le h)
+
+module _ (p : ℕ → Bool) where
+  turn-up : (n low high m : ℕ) → low + 1 < high → m ≡ low + (high - low) / 2 → p m ≡ true → halved p (suc n) low high ≡ halved p n m high
+  unfolding halved
+  turn-up n low high m h e t = simp (lt-ltb (low + 1) high h) (rw (sym e) (simp t))
+
+  turn-down : (n low high m : ℕ) → low + 1 < high → m ≡ low + (high - low) / 2 → p m ≡ false → halved p (suc n) low high ≡ halved p n low m
+  unfolding halved
+  turn-down n low high m h e f = simp (lt-ltb (low + 1) high h) (rw (sym e) (simp f))
+
+  at-end : (n low high : ℕ) → high ≤ low + 1 → halved p n low high ≡ low
+  unfolding halved
+  at-end zero low high h = refl
+  at-end (suc n) low high h = simp (le-ltb (low + 1) high h)
+
+  -- a loop that halves is at low and high, has turns enough, and will come to r
+  pub record Halving (r low high : ℕ) : Type 0 where
+    pub turns : ℕ
+    pub enough : high ≤ low + turns
+    pub comes : halved p turns low high ≡ r
+
+  pub halve-up : (r low high m : ℕ) → low + 1 < high → m ≡ low + (high - low) / 2 → p m ≡ true → Halving r low high → Halving r m high
+  halve-up r low high m h e t i = go (i .turns) (i .enough) (i .comes)
+    where
+      go : (n : ℕ) → high ≤ low + n → halved p n low high ≡ r → Halving r m high
+      go zero a c = absurd (omega arith)
+      go (suc n) a c = record { turns = n; enough = omega arith; comes = sym (turn-up n low high m h e t) ∙ c }
+
+  pub halve-down : (r low high m : ℕ) → low + 1 < high → m ≡ low + (high - low) / 2 → p m ≡ false → Halving r low high → Halving r low m
+  halve-down r low high m h e f i = go (i .turns) (i .enough) (i .comes)
+    where
+      go : (n : ℕ) → high ≤ low + n → halved p n low high ≡ r → Halving r low m
+      go zero a c = absurd (omega arith)
+      go (suc n) a c = record { turns = n; enough = omega arith; comes = sym (turn-down n low high m h e f) ∙ c }
+
+  pub halve-end : (r low high : ℕ) → high ≤ low + 1 → Halving r low high → low ≡ r
+  halve-end r low high h i = sym (at-end (i .turns) low high h) ∙ i .comes
+
+  -- r passes and the number after it, if that is below high, does not
+  pub record Step (low high r : ℕ) : Type 0 where
+    pub from : low ≤ r
+    pub before : r < high
+    pub passes : p r ≡ true
+    pub next : r + 1 < high → p (r + 1) ≡ false
+
+  turned : (n low high m : ℕ) → low + 1 < high → m ≡ low + (high - low) / 2 → (p m ≡ true → Step m high (halved p n m high)) → Step low m (halved p n low m)
+      → Step low high (halved p (suc n) low high)
+  turned n low high m h e up down = go (p m) refl
+    where
+      after : p m ≡ false → p (halved p n low m + 1) ≡ false
+      after f =
+          ⊎-elim
+          (λ (q : m ≡ halved p n low m + 1). ap p (sym q) ∙ f)
+          (λ (l : halved p n low m + 1 < m). down .next l)
+          (next-or-after (halved p n low m) m (down .before))
+
+      go : (u : Bool) → p m ≡ u → Step low high (halved p (suc n) low high)
+      go true u =
+          let s = up u in
+          subst (Step low high) (sym (turn-up n low high m h e u)) (record { from = omega (arith, s .from); before = s .before; passes = s .passes; next = s .next })
+      go false u =
+          subst (Step low high) (sym (turn-down n low high m h e u))
+          (record { from = down .from; before = omega (arith, down .before); passes = down .passes; next = λ l. after u })
+
+  pub halved-is : (n low high : ℕ) → high ≤ low + n → low < high → p low ≡ true → Step low high (halved p n low high)
+  halved-is zero low high a l t = absurd (omega arith)
+  halved-is (suc n) low high a l t =
+      ⊎-elim
+      (λ (e : high ≡ low + 1).
+      subst (Step low high) (sym (at-end (suc n) low high (omega arith))) (record { from = omega arith; before = l; passes = t; next = λ h. absurd (omega arith) }))
+      (λ (h : low + 1 < high).
+      turned n low high (low + (high - low) / 2) h refl (λ u. halved-is n (low + (high - low) / 2) high (omega arith) (omega arith) u)
+      (halved-is n low (low + (high - low) / 2) (omega arith) (omega arith) t))
+      (next-or-after low high l)
 
 -- l is the largest number up to k such that each from 1 to it passes
 pub record Largest (p : ℕ → Bool) (k l : ℕ) : Type 0 where

@@ -4,6 +4,7 @@ pub mod Each
 pub mod Refusal
 pub mod Reply
 pub mod Sums
+pub mod Tabulate
 pub mod Padded
 pub mod Field
 pub mod Private

@@ -7,6 +7,8 @@ use Rattle.qh.specs.declared.QhCoded.{QhCoded}
 use Rattle.qh.specs.declared.QhBuilt.{QhBuilt}
 use Rattle.qh.specs.declared.QhVerdict.{QhVerdict}
 use Rattle.qh.specs.declared.QhEstimate.{QhEstimate}
+use Rattle.qh.specs.declared.QhFilled.{QhFilled}
+use Rattle.qh.specs.declared.QhAnswered.{QhAnswered}
 use Rattle.qh.specs.declared.QhFound.{QhFound}
 
 abbrev pub codedOut : QhCoded → Reply
@@ -17,6 +19,12 @@ builtOut r = record { refusal = r .refusal; value = r .words }
 
 abbrev pub estimateOut : QhEstimate → Reply
 estimateOut r = record { refusal = r .refusal; value = r .estimate }
+
+abbrev pub filledOut : QhFilled → Reply
+filledOut r = record { refusal = r .refusal; value = r .places }
+
+abbrev pub answeredOut : QhAnswered → Reply
+answeredOut r = record { refusal = r .refusal; value = r .answers }
 
 abbrev pub foundOut : QhFound → Reply
 foundOut r = record { refusal = r .refusal; value = r .at }

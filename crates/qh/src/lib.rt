@@ -7,7 +7,9 @@ use check_rules::Sort;
 use check_rules::Verdict;
 use counts::Coded;
 use counts::Meaning;
+use estimator::Answered;
 use estimator::Asked;
+use estimator::Filled;
 use finder::Place;
 use sheet_rules::SHEET_BYTES;
 ghost use mathlib.Core.Path.{_≡_};
@@ -19,8 +21,10 @@ ghost use Rattle.check_rules.specs.declared.Verdict.the-variants.{Fails};
 ghost use Rattle.check_rules.specs.Reply.{sortNumber, verdictReply};
 ghost use Rattle.check_rules.specs.Checking.{checkReply};
 ghost use Rattle.estimate_rules.specs.Asking.{estimateReply};
+ghost use Rattle.estimate_rules.specs.Running.{fillReply, totalsFilled};
+ghost use Rattle.estimate_rules.specs.Worksheet.{worksheetReply, worksheetAnswered};
 ghost use Rattle.sheet_rules.specs.Sheet.{sheet, filled};
-ghost use Rattle.qh.specs.Results.{codedOut, builtOut, estimateOut, foundOut, verdictStruct};
+ghost use Rattle.qh.specs.Results.{codedOut, builtOut, estimateOut, filledOut, answeredOut, foundOut, verdictStruct};
 
 #[repr(C)]
 pub struct QhCoded {
@@ -48,6 +52,18 @@ pub struct QhVerdict {
 pub struct QhEstimate {
     pub refusal: u32,
     pub estimate: u64,
+}
+
+#[repr(C)]
+pub struct QhFilled {
+    pub refusal: u32,
+    pub places: usize,
+}
+
+#[repr(C)]
+pub struct QhAnswered {
+    pub refusal: u32,
+    pub answers: usize,
 }
 
 #[repr(C)]
@@ -185,6 +201,43 @@ pub extern "C" fn qh_estimate(words: &[u32], x: u32, y: u32) -> QhEstimate
         Asked::Refused(refusal) => QhEstimate {
             refusal,
             estimate: 0,
+        },
+    }
+}
+
+// Writes the running totals of a histogram into the first places that are lent and answers how many they are; refused with 7, 24, 8 to 12 or 19, it
+// writes nothing.
+#[no_mangle]
+pub extern "C" fn qh_fill_totals(words: &[u32], out: &mut [u64]) -> QhFilled
+    ensures { λ r. ⌜ filledOut r ≡ fillReply (now (words .entry)) (length (now (out .entry))) ⌝ }
+    ensures { λ r. ⌜ now (out .exit) ≡ totalsFilled (now (words .entry)) (now (out .entry)) ⌝ }
+{
+    match estimator::fill_totals(words, out) {
+        Filled::Places(places) => QhFilled { refusal: 0, places },
+        Filled::Refused(refusal) => QhFilled { refusal, places: 0 },
+    }
+}
+
+// Writes the estimates of a worksheet's ranges, two words a range, into the first places that are lent and answers how many they are; refused with
+// 7, 24, 8 to 12, 19, 20 or 21, it writes nothing.
+#[no_mangle]
+pub extern "C" fn qh_answer_worksheet(
+    words: &[u32],
+    totals: &[u64],
+    sheet: &[u32],
+    out: &mut [u64],
+) -> QhAnswered
+    ensures { λ r. ⌜ answeredOut r ≡ worksheetReply (now (words .entry)) (now (totals .entry)) (now (sheet .entry)) (length (now (out .entry))) ⌝ }
+    ensures { λ r. ⌜ now (out .exit) ≡ worksheetAnswered (now (words .entry)) (now (totals .entry)) (now (sheet .entry)) (now (out .entry)) ⌝ }
+{
+    match estimator::answer_worksheet(words, totals, sheet, out) {
+        Answered::Answers(answers) => QhAnswered {
+            refusal: 0,
+            answers,
+        },
+        Answered::Refused(refusal) => QhAnswered {
+            refusal,
+            answers: 0,
         },
     }
 }

@@ -113,6 +113,13 @@ pub fn span_at(words: &[u32], b: usize) -> u32
     arithmetic::left_of(end_at(words, b), start)
 }
 
+// The total code of bucket b, which one word holds.
+pub fn total_at(words: &[u32], b: usize) -> u32
+    ensures { λ r. ⌜ r ≡ bucketAt (now (words .entry)) b .total ⌝ }
+{
+    words_fields::total_of(bucket_word(words, b, 2))
+}
+
 // Bucket b, decoded.
 pub fn bucket_at(words: &[u32], b: usize) -> Bucket
     ensures { λ r. ⌜ r ≡ bucketAt (now (words .entry)) b ⌝ }

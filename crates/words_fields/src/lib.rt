@@ -28,6 +28,13 @@ pub fn start_of(first: u32) -> u32
     field_of(first, 29, 10)
 }
 
+// The total code in the third of a bucket's words.
+pub fn total_of(third: u32) -> u32
+    ensures { λ r. ⌜ r ≡ field third 11 0 ⌝ }
+{
+    field_of(third, 11, 0)
+}
+
 // Three widths, from the highest bits down.
 struct Widths {
     a: u32,
@@ -109,7 +116,7 @@ pub fn decode(packed: [u32; BUCKET_WORDS], end: u32) -> Bucket
         classes: classes_of(packed),
         start,
         flag,
-        total: field_of(packed[2], 11, 0),
+        total: total_of(packed[2]),
     }
 }
 

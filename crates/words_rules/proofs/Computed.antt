@@ -3,11 +3,11 @@
 use mathlib.Core.Path.{refl}
 use Rattle.laws.specs.Each.{each, some}
 use Rattle.laws.specs.Refusal.{refusal}
-use Rattle.laws.specs.Search.{first}
+use Rattle.laws.specs.Search.{first, halved}
 use Rattle.counts_rules.specs.Total.{validFields}
 use Rattle.words_rules.specs.Decoded.{decode, encode}
 use Rattle.words_rules.specs.Reading.{headGood, headFault, largeQFault, lengthFault, wordsBroken, wordFault, startFault, widthsBroken, widthFault, classBroken, totalBroken, codesBroken, codeFault}
-use Rattle.words_rules.specs.Finding.{bucketOf, findReply, bucketletOf}
+use Rattle.words_rules.specs.Finding.{bucketOf, bucketByHalving, findReply, bucketletOf}
 use Rattle.words_rules.specs.Worked.{Decoding, Faults, Found}
 
 pub decoding : Decoding
@@ -52,5 +52,5 @@ faults =
     }
 
 pub found : Found
-unfolding each some refusal validFields decode headGood headFault largeQFault lengthFault wordsBroken wordFault startFault widthsBroken widthFault classBroken totalBroken codesBroken codeFault bucketOf findReply bucketletOf first
-found = record { buckets-of = refl; bucketlets-of = refl; first = refl; second = refl; faults = refl; refused = refl; places = refl }
+unfolding each some refusal validFields decode headGood headFault largeQFault lengthFault wordsBroken wordFault startFault widthsBroken widthFault classBroken totalBroken codesBroken codeFault bucketOf bucketByHalving findReply bucketletOf first halved
+found = record { buckets-of = refl; by-halving = refl; halved-none = refl; bucketlets-of = refl; first = refl; second = refl; faults = refl; refused = refl; places = refl }

@@ -12,8 +12,10 @@ use lib.Dec.{eqb}
 use lib.ListN.{length, getD, length-append, List·getD-append}
 use Rattle.laws.specs.Field.{field, put}
 use Rattle.laws.specs.Sums.{sum}
+use Rattle.laws.specs.Tabulate.{tabulate}
 use Rattle.laws.proofs.FieldLaws.{next-field, no-field}
 use Rattle.laws.proofs.SumsLaws.{sum-append}
+use Rattle.laws.proofs.TabulateLaws.{by-elements}
 use Rattle.laws.proofs.Tests.{both-left, both-right, neither-left, neither-right, tested}
 use Rattle.words_rules.specs.declared.Bucket.{Bucket}
 use Rattle.words_rules.specs.Words.{word, kind, startIn, flagIn, listedIn, classesIn}
@@ -21,18 +23,6 @@ use Rattle.words_rules.specs.Decoded.{withFree, decode, listedAt, classA
 use Rattle.words_rules.specs.Reading.{wrongKind, outsideBit, wordsBroken}
 use Rattle.words_rules.specs.Claims.{InRange}
 use Rattle.words_rules.specs.Limits.{maxListed}
-
--- a list by its elements
-abbrev pub tabulate : ℕ → (ℕ → ℕ) → List ℕ
-tabulate zero f = []
-tabulate (suc n) f = f 0 ∷ tabulate n (λ i. f (suc i))
-
-tabulated : (l : List ℕ) → l ≡ tabulate (length l) (λ i. getD l i 0)
-tabulated [] = refl
-tabulated (x ∷ xs) = ap (λ (t : List ℕ). x ∷ t) (tabulated xs)
-
-pub by-elements : (n : ℕ) (l : List ℕ) → length l ≡ n → l ≡ tabulate n (λ i. getD l i 0)
-by-elements n l h = tabulated l ∙ ap (λ (m : ℕ). tabulate m (λ i. getD l i 0)) h
 
 -- the bit of a flag
 bit : (f : Bool) → eqb (cond f 1 0) 1 ≡ f

@@ -7,25 +7,25 @@ use mathlib.Core.List.{List, [], _∷_}
 use Prim.Native.Nat.{ℕ, zero, suc, _+_, _-_, _≤_, _<_}
 use native.Mathlib.Nat.{le-trans}
 use native.Mathlib.Omega.{arith}
-use borrow.Author.Tests.{ltb-true, ltb-false, lt-ltb, le-ltb, lt-leb, leb-false, eqb-true, eqb-false, eq-eqb, ne-eqb}
-use lib.Dec.{ltb, eqb}
+use borrow.Author.Tests.{ltb-true, ltb-false, lt-ltb, le-ltb, le-leb, leb-true, lt-leb, leb-false, eqb-true, eqb-false, eq-eqb, ne-eqb}
+use lib.Dec.{leb, ltb, eqb}
 use lib.ListN.{length, getD, take, drop, length-take, length-drop}
 use lib.Seq.{getD-take, getD-drop}
 use Rattle.laws.specs.Refusal.{refusal}
 use Rattle.laws.specs.Reply.{Reply, answered, refused}
 use Rattle.laws.specs.Sums.{prefixSum}
 use Rattle.laws.proofs.RefusalLaws.{numbered, refusal-append}
-use Rattle.laws.proofs.SearchLaws.{first-is, first-eq}
+use Rattle.laws.proofs.SearchLaws.{first-is, first-eq, halved-is}
 use Rattle.laws.proofs.SumsLaws.{prefix-suc, prefix-mono, prefix-all}
+use Rattle.laws.proofs.TabulateLaws.{by-elements}
 use Rattle.laws.proofs.Tests.{true-not-false}
 use Rattle.words_rules.specs.declared.Bucket.{Bucket}
 use Rattle.words_rules.specs.Words.{word, place, entries, buckets, packedAt, start, end, bucketWords}
 use Rattle.words_rules.specs.Decoded.{decode, bucketAt, bucketletStart, bucketletEnd, widthAt}
 use Rattle.words_rules.specs.Reading.{readSentences, readFault, Readable}
-use Rattle.words_rules.specs.Finding.{entryFault, findFault, bucketOf, findReply, found, bucketletOf}
+use Rattle.words_rules.specs.Finding.{entryFault, findFault, bucketOf, bucketByHalving, findReply, found, bucketletOf}
 use Rattle.words_rules.specs.Claims.{InBucket, InBucketlet, Entries, Finds}
-use Rattle.words_rules.proofs.DecodedLaws.{by-elements}
-use Rattle.words_rules.proofs.StartLaws.{tiles, starts-mono, end-next}
+use Rattle.words_rules.proofs.StartLaws.{tiles, starts-mono, end-next, end-last}
 use Rattle.words_rules.proofs.ReadingLaws.{NoFault, no-fault, limits, starts-in, holds}
 
 -- a bucketlet ends after its width
@@ -64,6 +64,22 @@ module _ (ws : List ℕ) (f : NoFault ws) where
       let s : start ws (m + 1) ≤ start ws b = starts-mono ws (starts-in ws f) (m + 1) b (omega arith) (i .is-bucket) in
       le-ltb e (end ws m) (subst (λ (x : ℕ). x ≤ e) (sym n) (le-trans s (i .from))))
       (lt-ltb _ _ (i .before))
+
+  -- halving ends where a bucket starts at or before the entry and the next, if there is one, after it
+  pub by-halving : (e : ℕ) → e < entries ws → bucketByHalving ws e ≡ bucketOf ws e
+  unfolding bucketByHalving
+  by-halving e h =
+      let n = buckets ws in
+      let first = starts-in ws f .first in
+      let s = halved-is (λ b. leb (start ws b) e) n 0 n (omega arith) (limits ws f .some-buckets) (le-leb (start ws 0) e (omega arith)) in
+      sym (one-bucket e (bucketByHalving ws e) (record { is-bucket = s .before; from = leb-true _ _ (s .passes); before = before (bucketByHalving ws e) (λ l. leb-false _ _ (s .next l)) }))
+    where
+      before : (b : ℕ) → (b + 1 < buckets ws → e < start ws (b + 1)) → e < end ws b
+      before b p = go (ltb (b + 1) (buckets ws)) refl
+        where
+          go : (t : Bool) → ltb (b + 1) (buckets ws) ≡ t → e < end ws b
+          go true q = let l = ltb-true (b + 1) (buckets ws) q in subst (λ (x : ℕ). e < x) (sym (end-next ws b l)) (p l)
+          go false q = subst (λ (x : ℕ). e < x) (sym (end-last ws b (ltb-false (b + 1) (buckets ws) q))) h
 
 -- of any bucket: an entry lies in at most one bucketlet, which is not empty
 pub one-bucketlet : (r : Bucket) (e k : ℕ) → InBucketlet r e k → bucketletOf r e ≡ k
@@ -107,6 +123,7 @@ module _ (ws : List ℕ) (f : NoFault ws) where
       record {
         has-bucket = has-bucket ws f;
         one-bucket = one-bucket ws f;
+        halved = by-halving ws f;
         has-bucketlet = bucketlet-in;
         one-bucketlet = λ e b k. one-bucketlet (bucketAt ws b) e k;
         not-empty = λ e b k. not-empty (bucketAt ws b) e k;

@@ -10,13 +10,13 @@ use borrow.Author.Tests.{ltb-true, ltb-false, lt-ltb, le-ltb, not-false}
 use lib.Dec.{ltb}
 use lib.ListN.{length}
 use Rattle.laws.proofs.Tests.{both, both-left, both-right, neither-left, neither-right}
+use Rattle.laws.proofs.TabulateLaws.{by-elements}
 use Rattle.words_rules.specs.declared.Head.{Head}
 use Rattle.laws.specs.Between.{between}
 use Rattle.list_rules.specs.Limits.{entriesGood, thetaGood, qGood}
 use Rattle.words_rules.specs.Words.{headWords, word, qn, qd, headOf, qWord, encodeHead}
 use Rattle.words_rules.specs.Reading.{headGood, headFault}
 use Rattle.words_rules.specs.Claims.{HeadInRange}
-use Rattle.words_rules.proofs.DecodedLaws.{by-elements}
 
 pub record GoodHead (h : Head) : Type 0 where
   pub entries : entriesGood (h .entries) ≡ true

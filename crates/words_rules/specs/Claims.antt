@@ -16,7 +16,7 @@ use Rattle.words_rules.specs.Limits.{maxListed, maxWidth}
 use Rattle.words_rules.specs.Words.{headWords, bucketWords, word, kind, entries, theta, qn, qd, buckets, headOf, encodeHead, packedAt, startIn, listedIn, start, end, span}
 use Rattle.words_rules.specs.Decoded.{decode, encode, listedAt, classAt, bucketAt, bucketletStart, bucketletEnd, widthAt}
 use Rattle.words_rules.specs.Reading.{wordsBroken, Readable}
-use Rattle.words_rules.specs.Finding.{findFault, bucketOf, found, bucketletOf}
+use Rattle.words_rules.specs.Finding.{findFault, bucketOf, bucketByHalving, found, bucketletOf}
 
 -- the fields of a bucket that ends at `end` are in range
 pub record InRange (r : Bucket) (end : ℕ) : Type 0 where
@@ -84,6 +84,7 @@ pub record InBucketlet (r : Bucket) (e k : ℕ) : Type 0 where
 pub record Entries (ws : List ℕ) : Type 0 where
   pub has-bucket : (e : ℕ) → e < entries ws → InBucket ws e (bucketOf ws e)
   pub one-bucket : (e b : ℕ) → InBucket ws e b → bucketOf ws e ≡ b
+  pub halved : (e : ℕ) → e < entries ws → bucketByHalving ws e ≡ bucketOf ws e
   pub has-bucketlet : (e b : ℕ) → InBucket ws e b → InBucketlet (bucketAt ws b) e (bucketletOf (bucketAt ws b) e)
   pub one-bucketlet : (e b k : ℕ) → InBucketlet (bucketAt ws b) e k → bucketletOf (bucketAt ws b) e ≡ k
   pub not-empty : (e b k : ℕ) → InBucketlet (bucketAt ws b) e k → 0 < widthAt (bucketAt ws b) k

@@ -7,9 +7,9 @@ use lib.Dec.{leb, ltb, eqb}
 use lib.ListN.{take, drop}
 use Rattle.laws.specs.Refusal.{Sentence, refusal}
 use Rattle.laws.specs.Reply.{Reply, answered, refused}
-use Rattle.laws.specs.Search.{first}
+use Rattle.laws.specs.Search.{first, halved}
 use Rattle.words_rules.specs.declared.Bucket.{Bucket}
-use Rattle.words_rules.specs.Words.{bucketWords, place, entries, buckets, end}
+use Rattle.words_rules.specs.Words.{bucketWords, place, entries, buckets, start, end}
 use Rattle.words_rules.specs.Decoded.{bucketletEnd}
 use Rattle.words_rules.specs.Reading.{readSentences}
 
@@ -26,6 +26,11 @@ findFault ws e = refusal (findSentences ws e)
 -- the first bucket whose end is above the entry (claims has-bucket, one-bucket)
 unfoldable pub bucketOf : List ℕ → ℕ → ℕ
 bucketOf ws e = first (λ b. ltb e (end ws b)) (buckets ws) 0
+
+-- what halving comes to where it looks for the last bucket that does not start after the entry: the same, of an entry below d in a readable list (claim
+-- halved), and of any other a number without a meaning
+unfoldable pub bucketByHalving : List ℕ → ℕ → ℕ
+bucketByHalving ws e = halved (λ b. leb (start ws b) e) (buckets ws) 0 (buckets ws)
 
 -- the place of its first word
 unfoldable pub findReply : List ℕ → ℕ → Reply

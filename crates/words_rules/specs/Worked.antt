@@ -10,7 +10,7 @@ use Rattle.words_rules.specs.declared.Bucket.{Bucket}
 use Rattle.words_rules.specs.Words.{end}
 use Rattle.words_rules.specs.Decoded.{decode, encode, bucketAt, bucketletStart, bucketletEnd}
 use Rattle.words_rules.specs.Reading.{readFault}
-use Rattle.words_rules.specs.Finding.{bucketOf, findFault, findReply, found, bucketletOf}
+use Rattle.words_rules.specs.Finding.{bucketOf, bucketByHalving, findFault, findReply, found, bucketletOf}
 
 -- 10, 10, 10, 10, theta 1, q 3/2
 abbrev pub tens : List ℕ
@@ -146,6 +146,9 @@ pub record Faults : Type 0 where
 
 pub record Found : Type 0 where
   pub buckets-of : map (bucketOf two) (0 ∷ 3 ∷ 4 ∷ 9 ∷ []) ≡ 0 ∷ 0 ∷ 1 ∷ 1 ∷ []
+  -- by halving, where an entry that is not in the list has a number too, and a list that is no histogram
+  pub by-halving : map (bucketByHalving two) (0 ∷ 3 ∷ 4 ∷ 9 ∷ 10 ∷ []) ≡ 0 ∷ 0 ∷ 1 ∷ 1 ∷ 1 ∷ []
+  pub halved-none : bucketByHalving [] 7 ≡ 0
   -- none is empty
   pub bucketlets-of : map (bucketletOf (bucketAt gaps 0)) (0 ∷ 1 ∷ 2 ∷ 3 ∷ 5 ∷ []) ≡ 1 ∷ 1 ∷ 4 ∷ 6 ∷ 6 ∷ []
   pub first : found two 3 ≡ take 5 (drop 4 two)

@@ -151,6 +151,47 @@ pub fn estimate(words: &[u32], x: u32, y: u32) -> Result<u64, Refusal> {
     answer(asked.refusal, asked.estimate)
 }
 
+/// The running totals of a histogram, for `answer_worksheet`: at place i the sum of the numbers that the totals of the
+/// buckets before i stand for, and one last place for all.
+///
+/// ```
+/// use qh::{build, fill_totals, Refusal};
+/// assert_eq!(fill_totals(&build(&[10, 10, 10, 10], 1, 3, 2)?)?, [0, 40]);
+/// assert_eq!(fill_totals(&build(&[1, 100, 1, 100, 1, 100, 1, 100, 1], 1, 3, 2)?)?, [0, 405, 406]);
+/// assert_eq!(fill_totals(&[]), Err(Refusal::Head));
+/// # Ok::<(), Refusal>(())
+/// ```
+pub fn fill_totals(words: &[u32]) -> Result<Vec<u64>, Refusal> {
+    let mut totals = vec![0; words.len() / 5 + 1]; // a bucket has five words, and there are four more
+    let (out, out_len) = (totals.as_mut_ptr(), totals.len());
+    let filled = unsafe { qh_fill_totals(words.as_ptr(), words.len(), out, out_len) };
+    totals.truncate(filled.places);
+    answer(filled.refusal, totals)
+}
+
+/// The estimates of the ranges of a worksheet, two numbers a range, each as `estimate` answers it. The histogram and its
+/// running totals are tested once.
+///
+/// ```
+/// use qh::{answer_worksheet, build, fill_totals, Refusal};
+/// let words = build(&[10, 10, 10, 10], 1, 3, 2)?;
+/// let totals = fill_totals(&words)?;
+/// assert_eq!(answer_worksheet(&words, &totals, &[1, 3, 0, 3, 0, 4, 2, 2])?, [17, 26, 40, 0]);
+/// assert_eq!(answer_worksheet(&words, &totals, &[])?, []);
+/// assert_eq!(answer_worksheet(&words, &totals[1..], &[1, 3]), Err(Refusal::Places));
+/// assert_eq!(answer_worksheet(&words, &[0, 41], &[1, 3]), Err(Refusal::Totals));
+/// assert_eq!(answer_worksheet(&words, &totals, &[1, 3, 4]), Err(Refusal::Worksheet));
+/// # Ok::<(), Refusal>(())
+/// ```
+pub fn answer_worksheet(words: &[u32], totals: &[u64], worksheet: &[u32]) -> Result<Vec<u64>, Refusal> {
+    let mut answers = vec![0; worksheet.len() / 2];
+    let (list, sums, ranges, out) = (words.as_ptr(), totals.as_ptr(), worksheet.as_ptr(), answers.as_mut_ptr());
+    let answered = unsafe {
+        qh_answer_worksheet(list, words.len(), sums, totals.len(), ranges, worksheet.len(), out, answers.len())
+    };
+    answer(answered.refusal, answers)
+}
+
 /// The words of the bucket that holds an entry.
 ///
 /// ```
@@ -231,9 +272,9 @@ mod tests {
     use super::{answer, unknown};
 
     #[test]
-    #[should_panic(expected = "does not know the refusal 19 of the linked libqh.a: the two are of different versions")]
+    #[should_panic(expected = "does not know the refusal 22 of the linked libqh.a: the two are of different versions")]
     fn a_refusal_of_another_version() {
-        let _ = answer(19, ());
+        let _ = answer(22, ());
     }
 
     #[test]

@@ -24,6 +24,18 @@ pub struct QhEstimate {
 }
 
 #[repr(C)]
+pub struct QhFilled {
+    pub refusal: u32,
+    pub places: usize,
+}
+
+#[repr(C)]
+pub struct QhAnswered {
+    pub refusal: u32,
+    pub answers: usize,
+}
+
+#[repr(C)]
 pub struct QhFound {
     pub refusal: u32,
     pub at: usize,
@@ -47,6 +59,17 @@ extern "C" {
     ) -> QhBuilt;
     pub fn qh_check(freqs: *const u32, freqs_len: usize, words: *const u32, words_len: usize) -> QhVerdict;
     pub fn qh_estimate(words: *const u32, words_len: usize, x: u32, y: u32) -> QhEstimate;
+    pub fn qh_fill_totals(words: *const u32, words_len: usize, out: *mut u64, out_len: usize) -> QhFilled;
+    pub fn qh_answer_worksheet(
+        words: *const u32,
+        words_len: usize,
+        totals: *const u64,
+        totals_len: usize,
+        worksheet: *const u32,
+        worksheet_len: usize,
+        out: *mut u64,
+        out_len: usize,
+    ) -> QhAnswered;
     pub fn qh_find(words: *const u32, words_len: usize, entry: u32) -> QhFound;
     pub fn qh_class_of(count: u32) -> QhCoded;
     pub fn qh_number_of_class(class: u32) -> QhCoded;

@@ -45,6 +45,9 @@ refusals! {
     Count = 16, "A count to be coded, as class or total, is above 1,073,741,823.";
     Reading = 17, "A class to be read is 2, 63 or above, or a total code to be read is not valid.";
     Input = 18, "The input is not theta, qn, qd and 1 to 4,096 frequencies: decimal numbers below 4,294,967,296 without leading zeros, one a line, each line ended by a line feed.";
+    Places = 19, "The list of running totals has fewer places than the buckets plus one, or that of answers fewer than half the worksheet's length, rounded down.";
+    Totals = 20, "A running total is not the sum of what the totals of the buckets before its place stand for.";
+    Worksheet = 21, "The worksheet's length is odd, or in one of its ranges x is above y, or y is above d.";
     LargeQ = 24, "q is above 8.";
 }
 
@@ -63,7 +66,7 @@ impl Refusal {
     /// ```
     /// use qh::Refusal;
     /// assert_eq!(Refusal::from_number(14), Some(Refusal::Range));
-    /// assert_eq!([0, 2, 19, 23, 25].map(Refusal::from_number), [None; 5]);
+    /// assert_eq!([0, 2, 22, 23, 25].map(Refusal::from_number), [None; 5]);
     /// assert!(Refusal::ALL.iter().all(|r| Refusal::from_number(r.number()) == Some(*r)));
     /// ```
     pub fn from_number(number: u32) -> Option<Refusal> {

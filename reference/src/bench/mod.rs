@@ -1,5 +1,6 @@
-//! The benchmark: times of the proved calls beside the same algorithms in Rust, and what the histograms are worth
-//! beside others of the same size. It measures and fails by no time; that the sides answer alike is asserted.
+//! The benchmark: times of the proved calls beside the same algorithms in Rust, of worksheets beside single calls, and
+//! what the histograms are worth beside others of the same size. It measures and fails by no time; that the sides answer
+//! alike is asserted.
 
 mod clock;
 mod lists;
@@ -8,15 +9,18 @@ mod quality;
 mod rivals;
 mod table;
 mod times;
+mod worksheets;
 
 use crate::program::Program;
 pub use lists::List;
 
-/// Prints both tables, as Markdown.
+/// Prints the tables, as Markdown.
 pub fn run(proved: &impl Program, real: Vec<List>) {
     println!("{}\n", machine());
     let lists = lists::all(real);
     times::print(proved, &lists);
+    println!();
+    worksheets::print(proved, &lists);
     println!();
     quality::print(proved, &lists);
 }

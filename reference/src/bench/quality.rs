@@ -7,7 +7,7 @@ use super::times::built;
 use crate::coding::code_number;
 use crate::demand::promise;
 use crate::estimate::exact_of;
-use crate::list::Bound;
+use crate::list::{running_sums, Bound};
 use crate::program::Program;
 use crate::words::{read, Bucket};
 
@@ -18,15 +18,6 @@ const RANGES: usize = 200_000;
 /// One range in so many is asked of the proved estimator too.
 const ASKED: usize = 1_000;
 
-/// Of a list or of buckets, the counts before each and at the end.
-fn sums(counts: impl Iterator<Item = u32>) -> Vec<u64> {
-    let mut sums = vec![0];
-    for count in counts {
-        sums.push(sums[sums.len() - 1] + u64::from(count));
-    }
-    sums
-}
-
 /// A histogram beside the sums of its totals: estimates as the estimator's, without a walk over all words for each.
 struct Summed {
     buckets: Vec<Bucket>,
@@ -36,7 +27,7 @@ struct Summed {
 impl Summed {
     fn new(words: &[u32]) -> Summed {
         let buckets = read(words).expect("a built histogram reads well").buckets;
-        let totals = sums(buckets.iter().map(|bucket| code_number(bucket.total)));
+        let totals = running_sums(buckets.iter().map(|bucket| code_number(bucket.total).into()));
         Summed { buckets, totals }
     }
 
@@ -83,7 +74,7 @@ fn shown(factor: f64) -> String {
 /// One row: the histogram and its rivals on the same ranges.
 fn row(proved: &dyn Program, list: &List, theta: u32) -> Vec<String> {
     let words = built(proved, &list.frequencies, Bound::new(theta, 2, 1));
-    let (summed, sums) = (Summed::new(&words), sums(list.frequencies.iter().copied()));
+    let (summed, sums) = (Summed::new(&words), running_sums(list.frequencies.iter().map(|&count| count.into())));
     let ranges = ranges(7, list.entries(), RANGES);
     for &(x, y) in ranges.iter().step_by(ASKED) {
         assert_eq!(proved.estimate(&words, x, y).estimate, summed.estimate(x, y), "the estimator's own answer");

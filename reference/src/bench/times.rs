@@ -19,7 +19,7 @@ const ASKED: usize = 64;
 /// A run of short calls goes on for about as long.
 const LEAST_RUN: Duration = Duration::from_millis(1);
 
-const PEER: Peer = Peer(Ranges::Fewer);
+pub const PEER: Peer = Peer(Ranges::Fewer);
 const FIGURE_6: Peer = Peer(Ranges::Every);
 
 const HEAD: [&str; 10] = [
@@ -38,21 +38,30 @@ const HEAD: [&str; 10] = [
 const NOTHING: &str = "nothing is lent";
 
 /// A list with its histogram.
-struct Case<'a> {
-    list: &'a List,
+pub struct Case<'a> {
+    pub list: &'a List,
     bound: Bound,
-    words: Vec<u32>,
+    pub words: Vec<u32>,
 }
 
 impl<'a> Case<'a> {
-    fn new(proved: &dyn Program, list: &'a List, theta: u32) -> Case<'a> {
+    pub fn new(proved: &dyn Program, list: &'a List, theta: u32) -> Case<'a> {
         let bound = Bound::new(theta, 2, 1);
         Case { list, bound, words: built(proved, &list.frequencies, bound) }
     }
 
     fn cells(&self, call: &str, cleared: &str) -> Vec<String> {
-        let buckets = grouped((self.words.len() as u64 - 4) / 5);
-        vec![call.to_string(), self.list.name.clone(), cleared.to_string(), grouped(self.bound.theta.into()), buckets]
+        let [list, theta, buckets] = self.about();
+        vec![call.to_string(), list, cleared.to_string(), theta, buckets]
+    }
+
+    /// The list's name, theta and the number of buckets.
+    pub fn about(&self) -> [String; 3] {
+        [self.list.name.clone(), grouped(self.bound.theta.into()), grouped(self.buckets() as u64)]
+    }
+
+    pub fn buckets(&self) -> usize {
+        (self.words.len() - 4) / 5
     }
 }
 

@@ -4,7 +4,7 @@ use super::slips::stored_bound;
 use super::Fault::*;
 use super::{holds_zero, Broken, RIGHT, SHORT};
 use crate::check::{readable, verdict, Verdict};
-use crate::coding::code_for;
+use crate::coding::{code_for, code_number};
 use crate::estimate::{asked, exact};
 use crate::fits::{first_failing, Failing, Sort};
 use crate::list::{count, Bound};
@@ -91,16 +91,26 @@ impl Broken {
 
     pub(super) fn estimated(&self, words: &[u32], x: u32, y: u32) -> Result<u64, u32> {
         let judged = self.judged_words(words, |words| RIGHT.estimate(words, x, y).refusal);
-        let mut histogram = asked(&judged, x, y)?;
+        let histogram = self.as_read(asked(&judged, x, y)?);
+        Ok(self.estimate_of(&histogram, x, y))
+    }
+
+    /// A histogram as those who estimate by it take it.
+    pub(super) fn as_read(&self, mut histogram: Histogram) -> Histogram {
         if self.fault == Class0EstimatedAt1 {
             histogram.buckets.iter_mut().for_each(class_0_as_1);
         }
-        let rounded = self.rounded(&histogram, x, y);
-        Ok(match self.fault {
+        histogram
+    }
+
+    /// The estimate of a range that lies within the list.
+    pub(super) fn estimate_of(&self, histogram: &Histogram, x: u32, y: u32) -> u64 {
+        let rounded = self.rounded(histogram, x, y);
+        match self.fault {
             SumOf0AnsweredWith0 => rounded,
             EmptyRangeAnsweredWith1 => rounded.max(1),
             _ => rounded.max(u64::from(x < y)),
-        })
+        }
     }
 
     fn rounded(&self, histogram: &Histogram, x: u32, y: u32) -> u64 {
@@ -109,6 +119,13 @@ impl Broken {
         let mut holding_x = bucketlets.filter(|&(start, end, _)| start < x && x < end && end < y);
         match (self.fault, holding_x.next()) {
             (RoundedDown, _) => (sum.numerator / sum.denominator) as u64,
+            (DifferenceOfTwo, _) => {
+                exact(histogram, 0, y).rounded_up().saturating_sub(exact(histogram, 0, x).rounded_up())
+            }
+            (CutBucketsByTotal, _) => {
+                let touched = histogram.buckets.iter().filter(|bucket| x < y && bucket.start < y && x < bucket.end());
+                touched.map(|bucket| u64::from(code_number(bucket.total))).sum()
+            }
             (EachCutRounded, Some((_, cut, _))) => {
                 exact(histogram, x, cut).rounded_up() + exact(histogram, cut, y).rounded_up()
             }

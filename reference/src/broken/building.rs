@@ -72,7 +72,7 @@ impl Broken {
         if self.fault == AboveEightAfter6 && bound.q_too_large() && words.len() <= lent.len() {
             return Err(24);
         }
-        let number = lend(&words, lent)?;
+        let number = lend(&words, lent).ok_or(6u32)?;
         if self.fault == RestCleared {
             lent[number..].fill(0);
         }

@@ -1,12 +1,14 @@
 //! The reference with one fault on purpose, one or more for each call: the comparison must find
 //! each of them. `FittedByExactAverage`, `WidthByHalving`, `WiderQ` and `EachCutRounded` are document
-//! 01's missteps; those about a zero, about 0 and about the 1 are missteps of request (iv), and those
-//! about eight and nine, each of them in one call at a time, of request (v).
+//! 01's missteps; those about a zero, about 0 and about the 1 are missteps of request (iv), those
+//! about eight and nine, each of them in one call at a time, of request (v), and those about running
+//! totals, places, answers and worksheets of request (i).
 
 mod asking;
 mod building;
 mod listing;
 mod slips;
+mod worksheets;
 
 use crate::build::Way;
 use crate::coding::class_start;
@@ -37,7 +39,7 @@ faults! {
     FittedByExactAverage: "build",
     WidthByHalving: "build",
     WiderQ: "build",
-    RestCleared: "build",
+    RestCleared: "build" | "fill" | "answer",
     WordsBeforeRefusal: "build",
     ZeroFrequencyRefusedByBuilder: "build",
     WholeExcused: "check",
@@ -45,11 +47,11 @@ faults! {
     TotalsNotChecked: "check",
     ZeroFrequencyRefusedByChecker: "check",
     JudgedWithThe1: "check",
-    EachCutRounded: "estimate",
-    RoundedDown: "estimate",
-    SumOf0AnsweredWith0: "estimate",
-    EmptyRangeAnsweredWith1: "estimate",
-    Class0EstimatedAt1: "estimate",
+    EachCutRounded: "estimate" | "answer",
+    RoundedDown: "estimate" | "answer",
+    SumOf0AnsweredWith0: "estimate" | "answer",
+    EmptyRangeAnsweredWith1: "estimate" | "answer",
+    Class0EstimatedAt1: "estimate" | "answer",
     FoundOneLate: "find",
     Class0AtAWidthRefused: "find",
     Code0AlwaysValid: "find",
@@ -59,18 +61,46 @@ faults! {
     LastFeedNotNeeded: "sheet",
     SheetEndedByZero: "sheet",
     Class0NotListed: "sheet",
-    EightRefused: "build" | "check" | "estimate" | "find" | "sheet",
-    NineTaken: "build" | "check" | "estimate" | "find" | "sheet",
-    AboveEightTaken: "build" | "check" | "estimate" | "find" | "sheet",
-    AboveEightRoundedDown: "build" | "check" | "estimate" | "find" | "sheet",
-    AboveEightOutsideLimits: "build" | "check" | "estimate" | "find" | "sheet",
-    NumeratorAboveEight: "build" | "check" | "estimate" | "find" | "sheet",
+    CodesSummed: "fill",
+    ClassesSummed: "fill",
+    Total0SummedAs1: "fill",
+    LastTotalMissing: "fill",
+    OnePlaceTooManyWanted: "fill",
+    TotalsWithTheirBucket: "fill" | "answer",
+    TotalsIn32Bits: "fill" | "answer",
+    PlacesBeforeRefusal: "fill" | "answer",
+    ShortBeforeTheWords: "fill" | "answer",
+    DifferenceOfTwo: "answer",
+    CutBucketsByTotal: "answer",
+    OneAnswerTooMany: "answer",
+    WordsCounted: "answer",
+    HalfRoundedUp: "answer",
+    ShortAfter20: "answer",
+    ShortAfter21: "answer",
+    TotalsNotLookedAt: "answer",
+    LastTotalNotLookedAt: "answer",
+    OnlyLastTotalLookedAt: "answer",
+    OnlyStepsLookedAt: "answer",
+    OneTotalTooFar: "answer",
+    TotalsAfter21: "answer",
+    OutsideRefusedWith14: "answer",
+    WordLeftOverTaken: "answer",
+    EmptyWorksheetRefused: "answer",
+    LastRangeNotTested: "answer",
+    RangesBackwardsTaken: "answer",
+    RangesToTheEndRefused: "answer",
+    EightRefused: "build" | "check" | "estimate" | "find" | "fill" | "answer" | "sheet",
+    NineTaken: "build" | "check" | "estimate" | "find" | "fill" | "answer" | "sheet",
+    AboveEightTaken: "build" | "check" | "estimate" | "find" | "fill" | "answer" | "sheet",
+    AboveEightRoundedDown: "build" | "check" | "estimate" | "find" | "fill" | "answer" | "sheet",
+    AboveEightOutsideLimits: "build" | "check" | "estimate" | "find" | "fill" | "answer" | "sheet",
+    NumeratorAboveEight: "build" | "check" | "estimate" | "find" | "fill" | "answer" | "sheet",
     AboveEightBeforeTheList: "build" | "check" | "sheet",
     AboveEightBefore5: "build" | "sheet",
     AboveEightAfter6: "build",
-    AboveEightBefore7: "check" | "estimate" | "find",
-    AboveEightAfter8: "check" | "estimate" | "find",
-    AboveEightLast: "check" | "estimate" | "find",
+    AboveEightBefore7: "check" | "estimate" | "find" | "fill" | "answer",
+    AboveEightAfter8: "check" | "estimate" | "find" | "fill" | "answer",
+    AboveEightLast: "check" | "estimate" | "find" | "fill" | "answer",
 }
 
 const RIGHT: Reference = Reference(Way::FewerRanges);
@@ -154,6 +184,20 @@ impl Program for Broken {
         match self.call {
             "find" => self.found(words, entry),
             _ => RIGHT.find(words, entry),
+        }
+    }
+
+    fn fill_totals(&self, words: &[u32], lent: &mut [u64]) -> QhFilled {
+        match self.call {
+            "fill" => self.filled(words, lent).into(),
+            _ => RIGHT.fill_totals(words, lent),
+        }
+    }
+
+    fn answer_worksheet(&self, words: &[u32], totals: &[u64], worksheet: &[u32], lent: &mut [u64]) -> QhAnswered {
+        match self.call {
+            "answer" => self.answered(words, totals, worksheet, lent).into(),
+            _ => RIGHT.answer_worksheet(words, totals, worksheet, lent),
         }
     }
 

@@ -2,9 +2,11 @@
 
 use super::{Comparison, Group};
 use crate::build::{histogram, Way};
+use crate::generate::worksheets::Worksheet;
 use crate::list::Bound;
 use crate::program::*;
 use crate::words::{write, HEADS, PER_BUCKET};
+use crate::worksheet::pairs;
 use std::fmt::Debug;
 
 const REFERENCE: Reference = Reference(Way::FewerRanges);
@@ -62,6 +64,11 @@ fn lent_words(length: usize) -> Vec<u32> {
     (0..length as u32 + BEYOND).map(word).collect()
 }
 
+/// The same for places of 64 bits, both halves of which are to stay.
+fn lent_places(length: usize) -> Vec<u64> {
+    lent_words(length).into_iter().map(|word| u64::from(word) << 32 | u64::from(!word)).collect()
+}
+
 /// The same for the bytes of a sheet.
 pub(super) fn sheet_contents() -> Vec<u8> {
     (0..SHEET_BYTES as u32 + BEYOND).map(|place| (place % 251) as u8).collect()
@@ -79,6 +86,25 @@ impl Comparison<'_> {
         self.note(group, text);
     }
 
+    /// Makes a call to both programs, each with the same contents of what is lent and lies beyond it, and hands back
+    /// the reference's answer and what it left there.
+    fn lent<T: Clone + PartialEq + Debug, A: PartialEq + Debug>(
+        &mut self,
+        group: Group,
+        reference: Reference,
+        contents: Vec<T>,
+        call: impl Fn(&dyn Program, &mut [T]) -> A,
+        input: impl Fn() -> String,
+    ) -> (A, Vec<T>) {
+        let (mut right, mut other) = (contents.clone(), contents);
+        let expected = call(&reference, &mut right);
+        let got = call(self.program, &mut other);
+        let differs = expected != got || right != other;
+        let text = differs.then(|| mismatch(&input(), &expected, &got) + &difference(&right, &other));
+        self.note(group, text);
+        (expected, right)
+    }
+
     /// Compares a build into `lent` words and hands back the reference's words.
     pub(super) fn build(
         &mut self,
@@ -88,18 +114,11 @@ impl Comparison<'_> {
         bound: Bound,
         lent: usize,
     ) -> Option<Vec<u32>> {
-        let mut right = lent_words(lent);
-        let mut other = right.clone();
-        let expected = Reference(way).build(frequencies, bound, &mut right[..lent]);
-        let got = self.program.build(frequencies, bound, &mut other[..lent]);
-        let differs = expected != got || right != other;
-        let text = differs.then(|| {
-            let input = format!("{}, {bound}, {lent} words lent", shown(frequencies));
-            mismatch(&input, expected, got) + &difference(&right, &other)
-        });
-        self.note(group, text);
-        right.truncate(expected.words);
-        (expected.refusal == 0).then_some(right)
+        let call = |program: &dyn Program, words: &mut [u32]| program.build(frequencies, bound, &mut words[..lent]);
+        let input = || format!("{}, {bound}, {lent} words lent", shown(frequencies));
+        let (expected, mut words) = self.lent(group, Reference(way), lent_words(lent), call, input);
+        words.truncate(expected.words);
+        (expected.refusal == 0).then_some(words)
     }
 
     /// Compares a check and answers whether the pair is accepted.
@@ -116,8 +135,12 @@ impl Comparison<'_> {
     }
 
     pub(super) fn estimate(&mut self, group: Group, words: &[u32], (x, y): (u32, u32)) {
+        self.estimate_as(group, words, (x, y), REFERENCE.estimate(words, x, y));
+    }
+
+    /// Compares an estimate with one that is known.
+    fn estimate_as(&mut self, group: Group, words: &[u32], (x, y): (u32, u32), expected: QhEstimate) {
         self.counts.estimates += 1;
-        let expected = REFERENCE.estimate(words, x, y);
         let got = self.program.estimate(words, x, y);
         let differs = expected != got;
         let text = differs.then(|| {
@@ -138,17 +161,35 @@ impl Comparison<'_> {
         self.note(group, text);
     }
 
+    /// Compares running totals of which `lent` places are lent.
+    pub(super) fn fill(&mut self, group: Group, words: &[u32], lent: usize) {
+        let call = |program: &dyn Program, places: &mut [u64]| program.fill_totals(words, &mut places[..lent]);
+        let input = || format!("{lent} places lent for {}", hexadecimal(words));
+        self.lent(group, REFERENCE, lent_places(lent), call, input);
+    }
+
+    /// Compares the answers to a worksheet, then each of them with what the single call gives.
+    pub(super) fn answer(&mut self, group: Group, worksheet: &Worksheet) {
+        let Worksheet { words, totals, ranges, lent } = worksheet;
+        let call = |program: &dyn Program, places: &mut [u64]| {
+            program.answer_worksheet(words, totals, ranges, &mut places[..*lent])
+        };
+        let input = || {
+            let totals = shortened(format!("{totals:?}"));
+            format!("{}, {lent} places lent, totals {totals}, by {}", shown(ranges), hexadecimal(words))
+        };
+        let (QhAnswered { answers, .. }, estimates) = self.lent(group, REFERENCE, lent_places(*lent), call, input);
+        self.counts.worksheets += 1;
+        self.counts.answers += answers as u64;
+        for (range, &estimate) in pairs(ranges).zip(&estimates[..answers]) {
+            self.estimate_as(Group::EstimateWorksheets, words, range, Ok(estimate).into());
+        }
+    }
+
     pub(super) fn sheet(&mut self, group: Group, input: &[u8]) {
-        let mut right = self.sheet_contents.clone();
-        let mut other = right.clone();
-        let expected = REFERENCE.sheet(input, lent_bytes(&mut right));
-        let got = self.program.sheet(input, lent_bytes(&mut other));
-        let differs = expected != got || right != other;
-        let text = differs.then(|| {
-            let input = shortened(input.escape_ascii().to_string());
-            mismatch(&input, expected, got) + &difference(&right, &other)
-        });
-        self.note(group, text);
+        let call = |program: &dyn Program, bytes: &mut [u8]| program.sheet(input, lent_bytes(bytes));
+        let text = || shortened(input.escape_ascii().to_string());
+        self.lent(group, REFERENCE, self.sheet_contents.clone(), call, text);
         self.listing(input);
     }
 

@@ -5,7 +5,7 @@ use super::Group::DemandNear;
 use super::{Comparison, Group};
 use crate::demand::{promise, Pair, Used, KS, SIDES};
 use crate::estimate::answered;
-use crate::list::Bound;
+use crate::list::{running_sums, Bound};
 use crate::words::read;
 
 /// The range that uses up most of the promise for one k and side.
@@ -26,10 +26,7 @@ impl Comparison<'_> {
         self.counts.accepted += 1;
         let histogram = read(words).expect("an accepted histogram reads well");
         let bound = histogram.head.bound;
-        let mut sums = vec![0];
-        for &frequency in frequencies {
-            sums.push(sums[sums.len() - 1] + u64::from(frequency));
-        }
+        let sums = running_sums(frequencies.iter().map(|&frequency| frequency.into()));
         for (x, y) in ranges {
             let pair = Pair { count: sums[y as usize] - sums[x as usize], estimate: answered(&histogram, x, y) };
             let Pair { count, estimate } = pair;

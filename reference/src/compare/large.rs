@@ -17,9 +17,17 @@ const LARGE: Asking = Asking { check: CheckLarge, estimate: EstimateLarge, find:
 
 const REAL: Asking = Asking { check: CheckReal, estimate: EstimateReal, find: FindReal, demand: DemandReal };
 
+pub(super) const REAL_BOUNDS: [Bound; 5] = [
+    Bound::new(1, 5, 4),
+    Bound::new(32, 2, 1),
+    Bound::new(100, 3, 2),
+    Bound::new(1_000, 5, 4),
+    Bound::new(50_000, 3, 1),
+];
+
 /// Narrow bucketlets first, so that any place may be the wide one, then runs of a level whose
 /// bucketlets come to about 511 or 4,095 entries.
-fn wide_list(random: &mut Random) -> Vec<u32> {
+pub(super) fn wide_list(random: &mut Random) -> Vec<u32> {
     let narrow = random.below(9) as usize;
     let mut frequencies: Vec<u32> = (0..narrow).map(|place| [1, 1_000][place % 2]).collect();
     for _ in 0..random.between(1, 3) {
@@ -41,8 +49,13 @@ fn wide_list(random: &mut Random) -> Vec<u32> {
     frequencies
 }
 
+/// No two neighbours go together: the builder makes a bucket for each eight entries.
+pub(super) fn most_buckets(length: usize) -> Vec<u32> {
+    (0..length).map(|place| [1, 30_000][place % 2]).collect()
+}
+
 /// A histogram of a bucket for each entry, each with one bucketlet in the middle.
-fn bucket_for_each(d: u32, bound: Bound, class: u32, total: u32) -> Vec<u32> {
+pub(super) fn bucket_for_each(d: u32, bound: Bound, class: u32, total: u32) -> Vec<u32> {
     let bucket = |start: u32| {
         let mut bucket = Bucket::empty(start, start % 2 == 1);
         (bucket.widths[3], bucket.classes[3], bucket.total) = (1, class, total);
@@ -190,7 +203,7 @@ impl Comparison<'_> {
         let words = bucket_for_each(frequencies.len() as u32, bound, 0, 0);
         self.ask_large(&mut random, LARGE, &frequencies, &words, 30);
         // The most words that the builder makes, and one too few.
-        let steep: Vec<u32> = (0..self.volume.longest).map(|place| [1, 30_000][place % 2]).collect();
+        let steep = most_buckets(self.volume.longest);
         let most = most_words(&steep);
         for lent in [most - 1, most, most + 1] {
             let bound = Bound::new(1, 5, 4);
@@ -229,8 +242,7 @@ impl Comparison<'_> {
     pub(super) fn real_lists(&mut self) {
         let mut random = self.random(6);
         for frequencies in self.real.clone() {
-            for (theta, qn, qd) in [(1, 5, 4), (32, 2, 1), (100, 3, 2), (1_000, 5, 4), (50_000, 3, 1)] {
-                let bound = Bound::new(theta, qn, qd);
+            for bound in REAL_BOUNDS {
                 self.large_list(&mut random, (BuildReal, REAL), &frequencies, bound);
                 self.faster_ways_agree(&frequencies, bound);
             }

@@ -8,6 +8,7 @@ mod large;
 mod sheets;
 mod slips;
 mod small;
+mod worksheets;
 mod zeros;
 
 use crate::demand::KS;
@@ -60,12 +61,34 @@ groups! {
     EstimateDirected: "estimate: directed lists",
     EstimateZeros: "estimate: lists with zeros, and class 0",
     EstimateSlips: "estimate: q about 8",
+    EstimateWorksheets: "estimate: each range of a worksheet",
     FindSmall: "find: built and foreign histograms",
     FindDamaged: "find: damaged words",
     FindRandom: "find: random words",
     FindLarge: "find: wide and large lists",
     FindReal: "find: real lists",
     FindSlips: "find: q about 8",
+    FillBuilt: "fill: built histograms",
+    FillForeign: "fill: foreign histograms",
+    FillDamaged: "fill: damaged words",
+    FillRandom: "fill: random words",
+    FillLarge: "fill: wide and large lists",
+    FillReal: "fill: real lists",
+    FillZeros: "fill: lists with zeros, and class 0",
+    FillShort: "fill: too few places",
+    FillSlips: "fill: q about 8",
+    AnswerBuilt: "answer: built histograms",
+    AnswerForeign: "answer: foreign histograms",
+    AnswerDamaged: "answer: damaged words",
+    AnswerRandom: "answer: random words",
+    AnswerLarge: "answer: wide and large lists",
+    AnswerReal: "answer: real lists",
+    AnswerZeros: "answer: lists with zeros, and class 0",
+    AnswerShort: "answer: too few places, and every length",
+    AnswerTotals: "answer: other running totals",
+    AnswerOutside: "answer: a word left over, and ranges outside",
+    AnswerTwoFaults: "answer: two faults at once",
+    AnswerSlips: "answer: q about 8",
     SheetGood: "sheet: good input",
     SheetDamaged: "sheet: damaged input",
     SheetSlips: "sheet: q about 8",
@@ -130,6 +153,8 @@ struct Counts {
     random: u64,
     accepted: u64,
     estimates: u64,
+    worksheets: u64,
+    answers: u64,
     ranges: u64,
     mismatches: u64,
 }
@@ -192,6 +217,7 @@ impl<'a> Comparison<'a> {
         self.part("every bit", Comparison::every_bit);
         self.part("random words", Comparison::random_words);
         self.part("directed lists", Comparison::directed_lists);
+        self.part("worksheets", Comparison::worksheets);
         self.part("sheets", Comparison::sheets);
         self.show_largest();
         self.report()
@@ -250,10 +276,12 @@ impl<'a> Comparison<'a> {
     }
 
     fn show_counts(&mut self) {
-        let Counts { lists, built, foreign, damaged, random, accepted, estimates, ranges, mismatches } = self.counts;
+        let Counts { lists, built, foreign, damaged, random, .. } = self.counts;
+        let Counts { accepted, estimates, worksheets, answers, ranges, mismatches, .. } = self.counts;
         self.show(&format!("{lists} lists"));
         self.show(&format!("histograms: {built} built, {foreign} foreign, {damaged} damaged, {random} random"));
         self.show(&format!("{estimates} estimates, {accepted} accepted pairs with {ranges} ranges"));
+        self.show(&format!("{worksheets} worksheets with {answers} answers"));
         self.show(&format!("{mismatches} mismatches, seed {}", self.seed));
     }
 }

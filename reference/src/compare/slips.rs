@@ -5,12 +5,12 @@ use super::Group::*;
 use crate::build::{histogram, Way};
 use crate::coding::{class_number, code_for};
 use crate::generate::bytes::input;
-use crate::generate::damage::damaged;
+use crate::generate::damage::{damaged, WORD_FAULTS};
 use crate::generate::directed::bucket;
 use crate::generate::foreign::wild;
 use crate::generate::lists::{bound, some_list, KINDS};
 use crate::generate::ranges::all_ranges;
-use crate::generate::slips::{about_most, some_q, WIDE};
+use crate::generate::slips::{about_most, some_q, with_q, WIDE};
 use crate::generate::Random;
 use crate::list::{Bound, COUNT_LIMIT, MOST_ENTRIES, MOST_THETA};
 use crate::words::{write, Histogram};
@@ -29,42 +29,8 @@ const LISTS: [&[u32]; 7] = [
 /// About as many words as one bucket needs, and two.
 const LENT: [usize; 6] = [0, 8, 9, 13, 14, 20];
 
-/// A fault of a histogram's words.
-type WordFault = fn(&mut Vec<u32>);
-
-/// Those of 7, then those of 8 to 12 in their order; one bucket more is 7 where d is 1.
-const WORD_FAULTS: [WordFault; 21] = [
-    Vec::clear,
-    |words| words.truncate(2),
-    |words| words.truncate(3),
-    |words| words[0] = 0,
-    |words| words[0] = 1 + MOST_ENTRIES as u32,
-    |words| words[1] = 0,
-    |words| words[1] = MOST_THETA + 1,
-    |words| words[2] |= 1 << 20,
-    |words| words[2] |= 1 << 31,
-    |words| words[3] = 0,
-    |words| words[3] = words[0] + 1,
-    |words| words.truncate(4),
-    |words| words.truncate(words.len() - 1),
-    |words| words.push(0),
-    |words| words[3] += 1,
-    |words| words[5] ^= 3 << 30,
-    |words| words[8] |= 1 << 27,
-    |words| words[4] |= 1 << 10,
-    |words| words[7] |= 511 << 18,
-    |words| words[5] |= 63 << 24,
-    |words| words[6] |= 31,
-];
-
 /// Two that are taken, two that 24 refuses and one that 7 does.
 const BESIDE_TWO_FAULTS: [(u32, u32); 5] = [(8, 1), (1_000, 125), (9, 1), (1_000, 124), (1_001, 125)];
-
-fn with_q(words: &[u32], (qn, qd): (u32, u32)) -> Vec<u32> {
-    let mut words = words.to_vec();
-    words[2] = (qn << 10) | qd;
-    words
-}
 
 /// Lists with histograms: the first two are accepted by every q that is taken, and the others, which estimate an entry
 /// at 8 times its count and at an eighth, by 8 alone.
@@ -141,6 +107,7 @@ impl Comparison<'_> {
         for entry in [0, d - 1, d] {
             self.find(FindSlips, words, entry);
         }
+        self.worksheet_slips(words, d);
     }
 
     /// A histogram of a short list as it is, and with each fault.

@@ -4,7 +4,7 @@ use super::calls::most_words;
 use super::Group::*;
 use super::{Asking, Comparison, Group};
 use crate::build::{histogram, Way, WAYS};
-use crate::generate::damage::{damaged, random_words};
+use crate::generate::damage::{damaged, every_change, random_words};
 use crate::generate::foreign::{fitting, wild};
 use crate::generate::lists::{bound, some_list, KINDS};
 use crate::generate::ranges::{all_ranges, ranges_outside, some_ranges};
@@ -136,13 +136,8 @@ impl Comparison<'_> {
             let built = histogram(Way::FewerRanges, &frequencies, bound).expect("a good list");
             let foreign = wild(&mut random, &frequencies, bound);
             for words in [write(&built), write(&foreign)] {
-                for bit in 0..32 * words.len() {
-                    let mut words = words.clone();
-                    words[bit / 32] ^= 1 << (bit % 32);
-                    self.damaged_words(&mut random, &frequencies, &words);
-                }
-                for length in 0..words.len() {
-                    self.damaged_words(&mut random, &frequencies, &words[..length]);
+                for changed in every_change(&words) {
+                    self.damaged_words(&mut random, &frequencies, &changed);
                 }
             }
         }

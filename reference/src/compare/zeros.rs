@@ -12,7 +12,7 @@ const ZEROS: Asking = Asking { check: CheckZeros, estimate: EstimateZeros, find:
 
 /// Zeros by themselves, at either end of a bucketlet and inside it, and bucketlets of zeros between others; the last
 /// two are there for class 0 alone.
-const LISTS: [(&[u32], Bound); 11] = [
+pub(super) const LISTS: [(&[u32], Bound); 11] = [
     (&[0], Bound::new(1, 5, 4)),
     (&[0, 0, 0], Bound::new(1, 3, 2)),
     (&[0, 0, 5, 0, 100], Bound::new(5, 3, 2)),
@@ -29,10 +29,10 @@ const LISTS: [(&[u32], Bound); 11] = [
 /// Of these the short lists are made that are all tried.
 const FREQUENCIES: [u32; 4] = [0, 1, 5, 12];
 
-const BOUNDS: [Bound; 3] = [Bound::new(1, 3, 2), Bound::new(6, 5, 4), Bound::new(17, 2, 1)];
+pub(super) const BOUNDS: [Bound; 3] = [Bound::new(1, 3, 2), Bound::new(6, 5, 4), Bound::new(17, 2, 1)];
 
 /// Every list of so many entries.
-fn short_lists(length: u32) -> impl Iterator<Item = Vec<u32>> {
+pub(super) fn short_lists(length: u32) -> impl Iterator<Item = Vec<u32>> {
     let kinds = FREQUENCIES.len();
     let frequency = move |number: usize, place: u32| FREQUENCIES[number / kinds.pow(place) % kinds];
     (0..kinds.pow(length)).map(move |number| (0..length).map(|place| frequency(number, place)).collect())
@@ -43,7 +43,7 @@ fn one_bucket(bucketlets: &[(u32, u32)], code: u32, bound: Bound) -> Vec<u32> {
 }
 
 /// Histograms of three entries, with class 0 and others at any width, and code 0 and others beside them.
-fn of_three_entries(bound: Bound) -> Vec<Vec<u32>> {
+pub(super) fn of_three_entries(bound: Bound) -> Vec<Vec<u32>> {
     let classes = [0, 1, 5, 8];
     let mut histograms = Vec::new();
     for (first, second) in classes.into_iter().flat_map(|first| classes.map(|second| (first, second))) {

@@ -2,6 +2,7 @@
 
 use super::foreign::codes;
 use super::Random;
+use crate::list::{MOST_ENTRIES, MOST_THETA};
 use crate::words::{HEADS, KINDS, PER_BUCKET};
 
 /// Head words near their limits.
@@ -14,6 +15,44 @@ const Q_EDGES: [u32; 8] = [0x1404, 0x1405, 0x2001, 0x2401, 0xF_A07D, 0xF_A07C, 0
 const WIDTHS: [(usize, u32); 7] = [(0, 0), (3, 18), (3, 9), (3, 0), (4, 18), (4, 9), (4, 0)];
 
 const CLASSES: [(usize, u32); 8] = [(1, 24), (1, 18), (1, 12), (1, 6), (1, 0), (2, 24), (2, 18), (2, 12)];
+
+/// A fault of a histogram's words.
+pub type WordFault = fn(&mut Vec<u32>);
+
+/// Those of 7, then those of 8 to 12 in their order; one bucket more is 7 where d is 1.
+pub const WORD_FAULTS: [WordFault; 21] = [
+    Vec::clear,
+    |words| words.truncate(2),
+    |words| words.truncate(3),
+    |words| words[0] = 0,
+    |words| words[0] = 1 + MOST_ENTRIES as u32,
+    |words| words[1] = 0,
+    |words| words[1] = MOST_THETA + 1,
+    |words| words[2] |= 1 << 20,
+    |words| words[2] |= 1 << 31,
+    |words| words[3] = 0,
+    |words| words[3] = words[0] + 1,
+    |words| words.truncate(4),
+    |words| words.truncate(words.len() - 1),
+    |words| words.push(0),
+    |words| words[3] += 1,
+    |words| words[5] ^= 3 << 30,
+    |words| words[8] |= 1 << 27,
+    |words| words[4] |= 1 << 10,
+    |words| words[7] |= 511 << 18,
+    |words| words[5] |= 63 << 24,
+    |words| words[6] |= 31,
+];
+
+/// A word list with each bit changed by itself, then each shorter one.
+pub fn every_change(words: &[u32]) -> impl Iterator<Item = Vec<u32>> + '_ {
+    let bits = (0..32 * words.len()).map(|bit| {
+        let mut words = words.to_vec();
+        words[bit / 32] ^= 1 << (bit % 32);
+        words
+    });
+    bits.chain((0..words.len()).map(|length| words[..length].to_vec()))
+}
 
 /// A word list with one to three faults.
 pub fn damaged(random: &mut Random, words: &[u32]) -> Vec<u32> {

@@ -7,6 +7,7 @@ pub mod foreign;
 pub mod lists;
 pub mod ranges;
 pub mod slips;
+pub mod worksheets;
 
 /// Splitmix64: the same seed gives the same numbers everywhere.
 #[derive(Clone, Debug)]

@@ -1,6 +1,7 @@
 //! Ranges of a list.
 
 use super::Random;
+use crate::words::Histogram;
 
 /// Every range, the empty ones too.
 pub fn all_ranges(d: u32) -> impl Iterator<Item = (u32, u32)> {
@@ -21,6 +22,29 @@ pub fn some_ranges(random: &mut Random, d: u32, number: usize) -> Vec<(u32, u32)
         ranges.push((x as u32, y as u32));
     }
     ranges
+}
+
+/// Ranges with ends at edges of buckets and of bucketlets and just beside them, and short ones, which often lie inside
+/// a bucketlet or are empty.
+pub fn ranges_about_edges(random: &mut Random, histogram: &Histogram, number: usize) -> Vec<(u32, u32)> {
+    let d = histogram.head.d;
+    let buckets: Vec<u32> = histogram.buckets.iter().map(|bucket| bucket.start).chain([d]).collect();
+    let bucketlets = histogram.buckets.iter().flat_map(|bucket| bucket.bucketlets());
+    let bucketlets: Vec<u32> = bucketlets.map(|(start, _, _)| start).collect();
+    let about_edge = |random: &mut Random| {
+        let edges = random.pick(&[&buckets, &bucketlets]);
+        let edge = random.pick(edges);
+        random.pick(&[edge, edge.saturating_sub(1), (edge + 1).min(d)])
+    };
+    let range = |_| {
+        let x = about_edge(random);
+        let y = match random.below(3) {
+            0 => (x + random.below(6) as u32).min(d),
+            _ => about_edge(random),
+        };
+        (x.min(y), x.max(y))
+    };
+    (0..number).map(range).collect()
 }
 
 /// Ranges that do not lie within a list of d entries.

@@ -55,3 +55,10 @@ pub fn some_q(random: &mut Random) -> (u32, u32) {
     let any = random.any_size(1_000) as u32;
     (random.pick(&[near, any]), qd)
 }
+
+/// A histogram with another q.
+pub fn with_q(words: &[u32], (qn, qd): (u32, u32)) -> Vec<u32> {
+    let mut words = words.to_vec();
+    words[2] = (qn << 10) | qd;
+    words
+}

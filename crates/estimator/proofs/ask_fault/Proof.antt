@@ -1,11 +1,10 @@
 -- `estimator::ask_fault` meets its contract: the list is tested first, and then the range.
 -- Assumes nothing.
 use mathlib.Core.Path.{sym, _∙_}
-use mathlib.Core.Logic.{inl, inr}
 use native.Mathlib.Omega.{arith}
 use borrow.Author.Needs.{needs}
 use Rattle.words_rules.specs.Reading.{Readable}
-use Rattle.estimate_rules.proofs.AskingLaws.{list-first, range-refused, no-fault}
+use Rattle.estimate_rules.proofs.AskingLaws.{list-first, range-refused, range-passed}
 use Rattle.estimator.proofs.ask_fault.Statement.{statement}
 use Rattle.estimator.proofs.ask_fault.Tie as tie
 
@@ -21,22 +20,15 @@ readable c = omega (arith, c .before .read-fault .ensures)
 
 returns-2 : tie.Need-returns-2
 returns-2 c =
-    let a = c .before .before .before .before .args in
-    sym (range-refused (a .words .now) (a .x) (a .y) (readable (c .before)) (inl (omega arith)))
+    let a = c .before .before .before .before .before .args in
+    sym (range-refused (a .words .now) (a .x) (a .y) (readable (c .before .before)) (sym (c .before .range-fault .ensures) ∙ c .if2 .taken))
 
 returns-3 : tie.Need-returns-3
 returns-3 c =
-    let a = c .before .before .before .before .before .before .args in
-    let d = c .before .entry-count .ensures in
-    sym (range-refused (a .words .now) (a .x) (a .y) (readable (c .before .before .before)) (inr (omega arith)))
-
-returns-4 : tie.Need-returns-4
-returns-4 c =
-    let a = c .before .before .before .before .before .before .args in
-    let d = c .before .entry-count .ensures in
-    sym (no-fault (a .words .now) (a .x) (a .y) (readable (c .before .before .before)) (omega arith) (omega arith))
+    let a = c .before .before .before .before .before .args in
+    sym (range-passed (a .words .now) (a .x) (a .y) (readable (c .before .before)) (sym (c .before .range-fault .ensures) ∙ c .if2 .left))
 
 pub ask-fault-spec : {M : Type 1} → statement M
 ask-fault-spec =
     tie.close
-    (tie.spec (λ c κs. search needs) returns returns-2 (λ c κs. search needs) returns-3 returns-4)
+    (tie.spec (λ c κs. search needs) returns (λ c κs. search needs) returns-2 returns-3)

@@ -22,11 +22,8 @@ field-of-requires c κs = search needs
 sum-of-requires : tie.Need-sum-of-requires
 sum-of-requires c κs = listed-bits (c .before .before .before .before .args .t1) (c .before .before .before .listed-of .result) (c .before .before .before .listed-of .ensures)
 
-array-read-field-of-2 : tie.Need-array-read-field-of-2
-array-read-field-of-2 c = search needs
-
-field-of-requires-2 : tie.Need-field-of-requires-2
-field-of-requires-2 c κs = search needs
+array-read-total-of : tie.Need-array-read-total-of
+array-read-total-of c = search needs
 
 returns : tie.Need-returns
 unfolding decode
@@ -40,7 +37,7 @@ returns c =
     let free = c .before .before .before .left-of2 .ensures ∙ (λ i. span i - listed i) in
     let w = c .before .before .with-free .ensures ∙ (λ i. withFree (f i) (free i) (l i)) in
     let k = c .before .classes-of .ensures in
-    let t = c .field-of2 .ensures in
+    let t = c .total-of .ensures in
     λ i. record { widths = w i; classes = k i; start = s i; flag = f i; total = t i }
 
 pub decode-spec : {M : Type 1} → statement M
@@ -57,6 +54,6 @@ decode-spec =
     (λ c κs. search needs)
     (λ c κs. search needs)
     (λ c κs. search needs)
-    array-read-field-of-2
-    field-of-requires-2
+    array-read-total-of
+    (λ c κs. search needs)
     returns)

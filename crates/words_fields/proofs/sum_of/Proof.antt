@@ -5,7 +5,7 @@ use native.Mathlib.Omega.{arith}
 use borrow.Author.Needs.{needs}
 use lib.ListN.{length}
 use Rattle.laws.specs.Sums.{sum}
-use Rattle.words_rules.proofs.DecodedLaws.{by-elements}
+use Rattle.laws.proofs.TabulateLaws.{by-elements}
 use Rattle.words_fields.proofs.sum_of.Statement.{statement}
 use Rattle.words_fields.proofs.sum_of.Tie as tie
 

@@ -8,7 +8,7 @@ use native.Mathlib.Omega.{arith}
 use borrow.Author.Needs.{needs}
 use lib.ListN.{length}
 use Rattle.words_rules.specs.Decoded.{withFree}
-use Rattle.words_rules.proofs.DecodedLaws.{by-elements}
+use Rattle.laws.proofs.TabulateLaws.{by-elements}
 use Rattle.words_fields.proofs.with_free.Statement.{statement}
 use Rattle.words_fields.proofs.with_free.Tie as tie
 

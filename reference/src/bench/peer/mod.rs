@@ -67,6 +67,14 @@ impl Program for Peer {
         reading::find(words, entry).into()
     }
 
+    fn fill_totals(&self, words: &[u32], lent: &mut [u64]) -> QhFilled {
+        asking::fill_totals(words, lent).into()
+    }
+
+    fn answer_worksheet(&self, words: &[u32], totals: &[u64], worksheet: &[u32], lent: &mut [u64]) -> QhAnswered {
+        asking::answer_worksheet(words, totals, worksheet, lent).into()
+    }
+
     fn sheet(&self, input: &[u8], lent: &mut Sheet) -> usize {
         // Not timed, so it has no peer.
         Reference(Way::FewerRanges).sheet(input, lent)

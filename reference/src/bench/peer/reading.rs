@@ -12,6 +12,12 @@ fn field(word: u32, low: u32, bits: u32) -> u32 {
     (word >> low) & ((1 << bits) - 1)
 }
 
+/// The total code of a bucket.
+#[inline]
+pub fn total_of(five: &Five) -> u32 {
+    field(five[2], 0, 12)
+}
+
 /// The start of a bucket.
 #[inline]
 pub fn start_of(five: &Five) -> u32 {
@@ -39,7 +45,7 @@ pub fn decode(five: &Five, end: u32) -> Bucket {
         _ => field(five[2], 54 - 6 * place, 6),
     };
     let classes = [0, 1, 2, 3, 4, 5, 6, 7].map(class);
-    Bucket { start, eighth_free, widths, classes, total: field(five[2], 0, 12) }
+    Bucket { start, eighth_free, widths, classes, total: total_of(five) }
 }
 
 /// The head words if they are good, which is all that refusal 7 asks.
@@ -123,12 +129,9 @@ pub fn read(words: &[u32]) -> Result<(Head, &[Five]), u32> {
     Ok((head, fives))
 }
 
-/// Where the five words of an entry's bucket begin; the refusals of reading, then 15.
-pub fn find(words: &[u32], entry: u32) -> Result<usize, u32> {
-    let (head, fives) = read(words)?;
-    if entry >= head.d {
-        return Err(15);
-    }
+/// The bucket of an entry, by halving.
+#[inline]
+pub fn bucket_of(fives: &[Five], entry: u32) -> usize {
     let (mut low, mut high) = (0, fives.len());
     while low + 1 < high {
         let middle = low + (high - low) / 2;
@@ -138,5 +141,14 @@ pub fn find(words: &[u32], entry: u32) -> Result<usize, u32> {
             high = middle;
         }
     }
-    Ok(HEADS + PER_BUCKET * low)
+    low
+}
+
+/// Where the five words of an entry's bucket begin; the refusals of reading, then 15.
+pub fn find(words: &[u32], entry: u32) -> Result<usize, u32> {
+    let (head, fives) = read(words)?;
+    if entry >= head.d {
+        return Err(15);
+    }
+    Ok(HEADS + PER_BUCKET * bucket_of(fives, entry))
 }

@@ -1,119 +1,51 @@
--- `estimator::pieces::bucket_piece` meets its contract: the loop's invariant is that the first k bucketlets are summed, and its measure what is
--- left of the eight.
+-- `estimator::pieces::bucket_piece` meets its contract: a bucket that is missed, held or cut.
 -- Assumes nothing.
-use mathlib.Core.Path.{_≡_, refl, sym, _∙_}
-use Prim.Native.Nat.{_-_}
-use native.Mathlib.Numerals.{add-one}
+use mathlib.Core.Path.{_≡_, sym, ap, _∙_}
 use native.Mathlib.Omega.{arith}
 use borrow.Author.Needs.{needs}
 use Rattle.words_rules.specs.Words.{start, end}
+use Rattle.estimate_rules.specs.Fraction.{number}
 use Rattle.estimate_rules.specs.Exact.{inside}
-use Rattle.estimator.proofs.WalkLaws.{Walked, walk-start, walk-step, starts, class-used, total-valid, walk-within, walk-small, walk-end, total-end, bucket-none}
+use Rattle.estimate_rules.proofs.ExactLaws.{bucket-whole, bucket-parts}
+use Rattle.estimate_rules.proofs.SpanLaws.{bucket-none}
 use Rattle.estimator.proofs.pieces.bucket_piece.Statement.{statement}
 use Rattle.estimator.proofs.pieces.bucket_piece.Tie as tie
 
-abbrev Inv-loop : tie.InvT-loop
-Inv-loop words x y b start end sum₀ bucket a₀ k₀ sum a k = Walked bucket x y sum a k
-
-abbrev μ-loop : tie.MeasureT-loop
-μ-loop words x y b start end sum₀ bucket a₀ k₀ sum a k = 8 - k
-
-returns : tie.Need-returns Inv-loop μ-loop
+returns : tie.Need-returns
 returns c =
     let s = c .before .before .before .before .before in
     let from = c .before .before .before .start-at .ensures in
     let to = c .before .before .end-at .ensures in
-    bucket-none (s .args .words .now) (s .pre .0) (s .args .x) (s .args .y) (s .args .b) (s .pre .1) (omega (arith, c .before .overlap-of .ensures, from, to))
+    sym (bucket-none (s .args .words .now) (s .pre .0) (s .args .x) (s .args .y) (s .args .b) (s .pre .1) (omega (arith, c .before .overlap-of .ensures, from, to)))
 
 -- what was tested is the bucket's span
-held : (c : tie.After-is-inside Inv-loop μ-loop) → let a = c .before .before .before .before .before .before .before .args in c .is-inside .result ≡ inside (a .x) (a .y) (start (a .words .now) (a .b)) (end (a .words .now) (a .b))
+held : (c : tie.After-is-inside) → let a = c .before .before .before .before .before .before .args in c .is-inside .result ≡ inside (a .x) (a .y) (start (a .words .now) (a .b)) (end (a .words .now) (a .b))
 held c =
-    let a = c .before .before .before .before .before .before .before .args in
-    let from = c .before .before .before .before .before .start-at .ensures in
-    let to = c .before .before .before .before .end-at .ensures in
+    let a = c .before .before .before .before .before .before .args in
+    let from = c .before .before .before .before .start-at .ensures in
+    let to = c .before .before .before .end-at .ensures in
     c .is-inside .ensures ∙ (λ i. inside (a .x) (a .y) (from i) (to i))
 
-total-number-requires : tie.Need-total-number-requires Inv-loop μ-loop
-total-number-requires c κs =
-    let s = c .before .before .before .before .before .before .before .before in
-    total-valid (s .args .words .now) (s .pre .0) (s .args .x) (s .args .y) (s .args .b) (s .pre .1) _ (c .before .before .bucket-at .ensures)
-
-returns-2 : tie.Need-returns-2 Inv-loop μ-loop
+returns-2 : tie.Need-returns-2
 returns-2 c =
-    let s = c .before .before .before .before .before .before .before .before .before in
-    total-end (s .args .words .now) (s .pre .0) (s .args .x) (s .args .y) (s .args .b) (s .pre .1) _ (c .before .before .before .bucket-at .ensures) _ (c .total-number .ensures)
-    (sym (held (c .before .before)) ∙ c .before .if2 .taken)
+    let a = c .before .before .before .before .before .before .before .before .args in
+    ap number (c .bucket-total .ensures) ∙ sym (bucket-whole (a .words .now) (a .x) (a .y) (a .b) (sym (held (c .before .before)) ∙ c .before .if2 .taken))
 
-loop-holds : tie.Need-loop-holds Inv-loop μ-loop
-loop-holds c =
-    let s = c .before .before .before .before .before .before .before .before in
-    walk-start _ (s .args .x) (s .args .y) _ (starts (s .args .words .now) (s .pre .0) (s .args .x) (s .args .y) (s .args .b) (s .pre .1) _ (c .before .before .bucket-at .ensures) _ (c .before .before .before .before .before .before .start-at .ensures))
-
-mul-w : tie.Need-mul-w Inv-loop μ-loop
-mul-w c = search needs
-
-element-copy-out-w : tie.Need-element-copy-out-w Inv-loop μ-loop
-element-copy-out-w c = search needs
-
-mul-with-piece : tie.Need-mul-with-piece Inv-loop μ-loop
-mul-with-piece c = search needs
-
-element-copy-out-with-piece : tie.Need-element-copy-out-with-piece Inv-loop μ-loop
-element-copy-out-with-piece c = search needs
-
-with-piece-requires : tie.Need-with-piece-requires Inv-loop μ-loop
-with-piece-requires c κs =
-    let s = c .before .before .before .before .before .before .before .before .before .before .before .before in
-    let l = c .before .before .before .loop in
-    record {
-      class-used = class-used (s .args .words .now) (s .pre .0) (s .args .x) (s .args .y) (s .args .b) (s .pre .1) _ (c .before .before .before .before .before .before .bucket-at .ensures) (l .k) (omega arith);
-      within = walk-within (s .args .words .now) (s .pre .0) (s .args .x) (s .args .y) (s .args .b) (s .pre .1) _ (c .before .before .before .before .before .before .bucket-at .ensures) (l .sum) (l .a) (l .k) (l .inv) (omega arith);
-      small = walk-small (s .args .words .now) (s .pre .0) (s .args .x) (s .args .y) (s .args .b) (s .pre .1) _ (c .before .before .before .before .before .before .bucket-at .ensures) (l .sum) (l .a) (l .k) (l .inv) (omega arith) _ refl;
-    }
-
-add-a : tie.Need-add-a Inv-loop μ-loop
-add-a c =
-    let s = c .before .before .before .before .before .before .before .before .before .before .before .before .before in
-    let l = c .before .before .before .before .loop in
-    omega (arith, walk-within (s .args .words .now) (s .pre .0) (s .args .x) (s .args .y) (s .args .b) (s .pre .1) _ (c .before .before .before .before .before .before .before .bucket-at .ensures) (l .sum) (l .a) (l .k) (l .inv) (omega arith))
-
-add-k : tie.Need-add-k Inv-loop μ-loop
-add-k c = search needs
-
-loop-again : tie.Need-loop-again Inv-loop μ-loop
-loop-again c =
-    let a = c .before .before .before .before .before .before .before .before .before .before .before .before .before .args in
-    let l = c .before .before .before .before .loop in
-    rw (add-one (l .k)) (walk-step _ (a .x) (a .y) (l .sum) (l .a) (l .k) (l .inv) (omega arith) _ (c .with-piece .ensures))
-
-returns-3 : tie.Need-returns-3 Inv-loop μ-loop
+returns-3 : tie.Need-returns-3
 returns-3 c =
-    let s = c .before .before .before .before .before .before .before .before .before .before in
-    let l = c .before .loop in
-    walk-end (s .args .words .now) (s .pre .0) (s .args .x) (s .args .y) (s .args .b) (s .pre .1) _ (c .before .before .before .before .bucket-at .ensures) (l .sum) (l .a) (l .k) (l .inv) (omega (arith, l .inv .places)) (sym (held (c .before .before .before)) ∙ c .before .before .if2 .left)
+    let a = c .before .before .before .before .before .before .before .before .args in
+    c .bucketlets-piece .ensures ∙ sym (bucket-parts (a .words .now) (a .x) (a .y) (a .b) (sym (held (c .before .before)) ∙ c .before .if2 .left))
 
 pub bucket-piece-spec : {M : Type 1} → statement M
 bucket-piece-spec =
     tie.close
     (tie.spec
-    Inv-loop
-    μ-loop
     (λ c κs. search needs)
     (λ c κs. search needs)
     (λ c κs. search needs)
     returns
     (λ c κs. search needs)
     (λ c κs. search needs)
-    total-number-requires
     returns-2
-    loop-holds
-    mul-w
-    element-copy-out-w
-    mul-with-piece
-    element-copy-out-with-piece
-    with-piece-requires
-    add-a
-    add-k
-    (λ c. search needs)
-    loop-again
+    (λ c κs. search needs)
     returns-3)

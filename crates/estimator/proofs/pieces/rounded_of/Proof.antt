@@ -1,4 +1,4 @@
--- `estimator::rounded_of` meets its contract: what is small stays below 2^64.
+-- `estimator::pieces::rounded_of` meets its contract: what is small stays below 2^64.
 -- Assumes nothing.
 use mathlib.Core.Path.{ap}
 use Prim.Native.Nat.{ℕ, _+_, _-_, _/_, _^_, _<_}
@@ -6,8 +6,8 @@ use native.Mathlib.Nat.{div-le-self}
 use native.Mathlib.Omega.{arith}
 use borrow.Author.Needs.{needs}
 use Rattle.estimate_rules.specs.Fraction.{rounded}
-use Rattle.estimator.proofs.rounded_of.Statement.{statement}
-use Rattle.estimator.proofs.rounded_of.Tie as tie
+use Rattle.estimator.proofs.pieces.rounded_of.Statement.{statement}
+use Rattle.estimator.proofs.pieces.rounded_of.Tie as tie
 
 quotient-small : (w x b : ℕ) → w + x < 2 ^ 64 → w + x / b < 2 ^ 64
 quotient-small w x b h = omega (arith, div-le-self x b)
