@@ -101,15 +101,15 @@ module _ (ws : List ℕ) (readable : Readable ws) (x y : ℕ) where
   pass-start = record { within = omega arith; summed = refl }
 
   module _ (sum : Fraction) (n : ℕ) (passed : Passed ws x y sum n) where
-    next-passed : (t : Fraction) → t ≡ bucketPiece ws x y n → plus sum t ≡ sumOf (suc n) (bucketPiece ws x y)
+    next-passed : plus sum (bucketPiece ws x y n) ≡ sumOf (suc n) (bucketPiece ws x y)
     unfolding sumOf
-    next-passed t e = let s = passed .summed in λ i. plus (s i) (e i)
+    next-passed = ap (λ (s : Fraction). plus s (bucketPiece ws x y n)) (passed .summed)
 
-    pub pass-small : n < buckets ws → (t : Fraction) → t ≡ bucketPiece ws x y n → Small (plus sum t)
-    pass-small l t e = subst Small (sym (next-passed t e)) (buckets-small ws readable x y (suc n) l)
+    pub pass-small : n < buckets ws → Small (plus sum (bucketPiece ws x y n))
+    pass-small l = subst Small (sym next-passed) (buckets-small ws readable x y (suc n) l)
 
-    pub pass-step : n < buckets ws → (t u : Fraction) → t ≡ bucketPiece ws x y n → u ≡ plus sum t → Passed ws x y u (suc n)
-    pass-step l t u e f = record { within = l; summed = f ∙ next-passed t e }
+    pub pass-step : n < buckets ws → (u : Fraction) → u ≡ plus sum (bucketPiece ws x y n) → Passed ws x y u (suc n)
+    pass-step l u f = record { within = l; summed = f ∙ next-passed }
 
     pub pass-end : n ≡ buckets ws → sum ≡ exact ws x y
     unfolding exact

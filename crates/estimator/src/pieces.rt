@@ -148,20 +148,13 @@ fn bucketlets_piece(words: &[u32], x: u32, y: u32, b: usize) -> Fraction
     sum
 }
 
-// What bucket b gives: its total if the range holds it, nothing if it holds no entry of it, else what its bucketlets give.
+// What bucket b gives: its total if the range holds it, else what its bucketlets give.
 pub(crate) fn bucket_piece(words: &[u32], x: u32, y: u32, b: usize) -> Fraction
     requires { ⌜ Readable (now words) × (b < buckets (now words)) ⌝ }
     ensures { λ r. ⌜ r ≡ bucketPiece (now (words .entry)) x y b ⌝ }
 {
     let start = words::start_at(words, b);
     let end = words::end_at(words, b);
-    if overlap_of(x, y, start, end) == 0 {
-        return Fraction {
-            whole: 0,
-            top: 0,
-            bottom: 1,
-        };
-    }
     if is_inside(x, y, start, end) {
         return Fraction {
             whole: bucket_total(words, b),
@@ -170,6 +163,19 @@ pub(crate) fn bucket_piece(words: &[u32], x: u32, y: u32, b: usize) -> Fraction
         };
     }
     bucketlets_piece(words, x, y, b)
+}
+
+// A sum and what bucket b adds to it: nothing if the range holds no entry of it.
+fn with_bucket(sum: Fraction, words: &[u32], x: u32, y: u32, b: usize) -> Fraction
+    requires { ⌜ Readable (now words) × (b < buckets (now words)) × Small (plus sum (bucketPiece (now words) x y b)) ⌝ }
+    ensures { λ r. ⌜ r ≡ plus sum (bucketPiece (now (words .entry)) x y b) ⌝ }
+{
+    let start = words::start_at(words, b);
+    let end = words::end_at(words, b);
+    if overlap_of(x, y, start, end) == 0 {
+        return sum;
+    }
+    plus(sum, bucket_piece(words, x, y, b))
 }
 
 // The sum that estimates the range, not yet rounded.
@@ -185,7 +191,7 @@ pub(crate) fn exact_of(words: &[u32], x: u32, y: u32) -> Fraction
         bottom: 1,
     };
     for b in 0..buckets {
-        sum = plus(sum, bucket_piece(words, x, y, b));
+        sum = with_bucket(sum, words, x, y, b);
     }
     sum
 }

@@ -47,11 +47,7 @@ fn total(five: &Five) -> u64 {
 /// Adds what a bucket that ends at an entry gives.
 #[inline]
 fn add_bucket(sum: &mut Sum, five: &Five, end: u32, x: u32, y: u32) {
-    let start = start_of(five);
-    if y.min(end) <= x.max(start) {
-        return;
-    }
-    if x <= start && end <= y {
+    if x <= start_of(five) && end <= y {
         sum.whole += total(five);
     } else {
         add_bucketlets(sum, &decode(five, end), x, y);
@@ -69,7 +65,9 @@ pub fn estimate(words: &[u32], x: u32, y: u32) -> Result<u64, u32> {
     }
     let mut sum = Sum { whole: 0, top: 0, bottom: 1 };
     for (five, end) in with_ends(fives, head.d) {
-        add_bucket(&mut sum, five, end, x, y);
+        if x.max(start_of(five)) < y.min(end) {
+            add_bucket(&mut sum, five, end, x, y);
+        }
     }
     Ok(sum.rounded())
 }
