@@ -11,7 +11,7 @@ use lib.Dec.{leb}
 use Rattle.laws.proofs.Tests.{fails-other, tested}
 use Rattle.estimate_rules.specs.Exact.{inside, overlap}
 
-before-or-not : (x y : ℕ) → (x < y) ⊎ (y ≤ x)
+pub before-or-not : (x y : ℕ) → (x < y) ⊎ (y ≤ x)
 before-or-not x zero = inr zero-le
 before-or-not zero (suc y) = inl (omega arith)
 before-or-not (suc x) (suc y) = ⊎-elim (λ (l : x < y). inl (omega arith)) (λ (g : y ≤ x). inr (omega arith)) (before-or-not x y)

@@ -3,7 +3,7 @@
 -- Assumes nothing.
 use mathlib.Core.Path.{_≡_, refl, sym, ap, _∙_}
 use mathlib.Core.List.{List}
-use mathlib.Core.Logic.{_⊎_, inl, inr, ⊎-elim}
+use mathlib.Core.Logic.{⊎-elim}
 use Prim.Native.Nat.{ℕ, zero, suc, _+_, _-_, _*_, _^_, _≤_, _<_}
 use native.Mathlib.Nat.{zero-add, le-of-suc-le-suc, eq-or-lt-of-le}
 use native.Mathlib.Omega.{arith}
@@ -24,7 +24,7 @@ use Rattle.estimate_rules.specs.Running.{totalsFrom, runningTotal}
 use Rattle.estimate_rules.specs.Claims.{ByTotals}
 use Rattle.estimate_rules.proofs.FractionLaws.{plus-nothing, nothing-plus, plus-numbers, sum-none, sum-one, sum-rest}
 use Rattle.estimate_rules.proofs.ExactLaws.{bucket-whole}
-use Rattle.estimate_rules.proofs.CutLaws.{rises}
+use Rattle.estimate_rules.proofs.CutLaws.{before-or-not, rises}
 use Rattle.estimate_rules.proofs.SpanLaws.{edge, edge-start, edge-end, edges-rise, bucket-none}
 
 module _ (ws : List ℕ) where
@@ -136,13 +136,7 @@ module _ (ws : List ℕ) (readable : Readable ws) (x y : ℕ) (some : x < y) (wi
   unfolding exact
   within-one e =
       sum-one (buckets ws) (bucketPiece ws x y) first (in-first .is-bucket)
-      (λ i h d. ⊎-elim (λ (l : i < first). none-before i l) (λ (g : first < i). none-after i (omega arith) h) (apart i first d))
-    where
-      apart : (i j : ℕ) → (i ≡ j → ⊥) → (i < j) ⊎ (j < i)
-      apart zero zero d = absurd (d refl)
-      apart zero (suc j) d = inl (omega arith)
-      apart (suc i) zero d = inr (omega arith)
-      apart (suc i) (suc j) d = ⊎-elim (λ (l : i < j). inl (omega arith)) (λ (g : j < i). inr (omega arith)) (apart i j (λ e. d (ap suc e)))
+      (λ i h d. ⊎-elim (λ (l : i < first). none-before i l) (λ (g : first ≤ i). none-after i (let n : i ≡ first → ⊥ = d in omega arith) h) (before-or-not i first))
 
   pub by-totals : ByTotals ws x y
   by-totals = record { within-one = within-one; over-several = over-several }

@@ -23,7 +23,7 @@ use Rattle.estimator.specs.Private.Sheets.{WithTotals}
 use Rattle.estimator.proofs.WalkLaws.{buckets-small}
 
 -- a place that is needed holds its running total
-pub total-is : (ws totals : List ℕ) → WithTotals ws totals → (i : ℕ) → i ≤ buckets ws → word totals i ≡ runningTotal ws i
+total-is : (ws totals : List ℕ) → WithTotals ws totals → (i : ℕ) → i ≤ buckets ws → word totals i ≡ runningTotal ws i
 unfolding totalsFault
 total-is ws totals t i h =
     eqb-true _ _ (not-false _ (none-at (totalPlaces ws) (λ i. not (eqb (word totals i) (runningTotal ws i))) (t .right) i (omega arith)))

@@ -5,7 +5,7 @@ use mathlib.Core.List.{List, [], _∷_, _++_}
 use Prim.Native.Nat.{ℕ, zero, suc, _+_, _≤_, _<_}
 use native.Mathlib.Numerals.{add-one}
 use native.Mathlib.Omega.{arith}
-use lib.ListN.{length, getD, set, drop, length-append, length-drop}
+use lib.ListN.{length, getD, set, drop}
 use lib.Seq.{drop-cons, append-snoc, set-at}
 use Rattle.laws.specs.Tabulate.{tabulate}
 
@@ -42,12 +42,6 @@ module _ (n : ℕ) (f : ℕ → ℕ) (old : List ℕ) (room : n ≤ length old) 
   none-written = record { within = omega arith; so-far = refl }
 
   module _ (k : ℕ) (new : List ℕ) (w : Written n f old k new) where
-    pub written-length : length new ≡ length old
-    written-length =
-        ap length (w .so-far)
-        ∙ length-append (tabulate k f) (drop k old)
-        ∙ (omega (arith, length-tabulate k f, length-drop k old, w .within))
-
     pub one-written : (v : ℕ) → k < n → v ≡ f k → Written n f old (k + 1) (set new k v)
     one-written v h e =
         record {
