@@ -18,7 +18,8 @@ first p (suc k) n = orAfter (p n) n (first p k)
 unfoldable pub largest : (ℕ → Bool) → ℕ → ℕ
 largest p k = first (λ n. not (p (suc n))) k 0
 
--- what halving comes to from low and high, by n turns at most: low if high is the next, else it goes on from the middle if that passes, or up to it
+-- what halving comes to from low and high, by n turns at most: low if none lies between them, else it goes on from the middle if that passes, or up
+-- to it
 unfoldable pub halved : (ℕ → Bool) → ℕ → ℕ → ℕ → ℕ
 halved p zero low high = low
 halved p (suc n) low high =
