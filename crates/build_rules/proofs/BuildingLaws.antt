@@ -1,18 +1,17 @@
 -- What the builder answers and leaves, by the sentence that is true first.
 -- Assumes nothing.
 use mathlib.Core.Path.{_≡_, refl, sym, ap, _∙_}
-use mathlib.Core.Bool.{true, false}
 use mathlib.Core.List.{List, [], _∷_, _++_}
 use Prim.Native.Nat.{ℕ, _≤_, _<_}
 use native.Mathlib.Omega.{arith}
-use borrow.Author.Tests.{lt-ltb, le-ltb, eq-eqb, ne-eqb}
-use lib.Dec.{ltb, eqb}
+use borrow.Author.Tests.{lt-ltb, le-ltb}
+use lib.Dec.{ltb}
 use lib.ListN.{length, take, drop}
 use Rattle.laws.specs.Refusal.{Sentence, refusal}
 use Rattle.laws.specs.Reply.{answered, refused}
-use Rattle.laws.proofs.Tests.{chosen, not-chosen}
 use Rattle.laws.proofs.RefusalLaws.{numbered, append-refused, append-passed, none-left}
 use Rattle.laws.proofs.RefusalLaws as law
+use Rattle.laws.proofs.ReplyLaws.{lent-refused, lent-answered}
 use Rattle.build_rules.specs.Words.{words}
 use Rattle.list_rules.specs.Quality.{quality, inputSentences}
 use Rattle.build_rules.specs.Building.{buildFault, buildReply, written}
@@ -28,9 +27,7 @@ module _ (fs : List ℕ) (theta qn qd : ℕ) (old : List ℕ) where
   pub refused-by : (f : ℕ) → f ≡ buildFault fs theta qn qd (length old) → (f ≡ 0 → ⊥)
       → (refused f ≡ buildReply fs theta qn qd (length old)) × (old ≡ written fs theta qn qd old)
   unfolding buildReply written
-  refused-by f e n =
-      let t : eqb (buildFault fs theta qn qd (length old)) 0 ≡ false = ne-eqb _ 0 (λ z. n (e ∙ z)) in
-      (ap refused e ∙ not-chosen _ _ (refused (buildFault fs theta qn qd (length old))) t, not-chosen _ (new ++ drop (length new) old) old t)
+  refused-by f e n = lent-refused (buildFault fs theta qn qd (length old)) (length new) (new ++ drop (length new) old) old f e n
 
   -- an input that is refused
   pub input-fault : (refusal (inputSentences fs theta qn qd) ≡ 0 → ⊥) → refusal (inputSentences fs theta qn qd) ≡ buildFault fs theta qn qd (length old)
@@ -52,7 +49,5 @@ module _ (fs : List ℕ) (theta qn qd : ℕ) (old : List ℕ) where
         → (answered n ≡ buildReply fs theta qn qd (length old)) × (take n made ++ drop n old ≡ written fs theta qn qd old)
     unfolding buildReply written
     answered-by n made e d h =
-        let t : eqb (buildFault fs theta qn qd (length old)) 0 ≡ true = eq-eqb _ 0 (no-fault (omega arith)) in (
-          ap answered e ∙ chosen _ (answered (length new)) _ t,
-          ap (λ (ws : List ℕ). ws ++ drop n old) d ∙ ap (λ (k : ℕ). new ++ drop k old) e ∙ chosen _ (new ++ drop (length new) old) old t,
-        )
+        let r = lent-answered (buildFault fs theta qn qd (length old)) (length new) (new ++ drop (length new) old) old (no-fault (omega arith)) in
+        (ap answered e ∙ r .0, ap (λ (ws : List ℕ). ws ++ drop n old) d ∙ ap (λ (k : ℕ). new ++ drop k old) e ∙ r .1)

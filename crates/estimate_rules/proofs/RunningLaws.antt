@@ -139,4 +139,4 @@ module _ (ws : List ℕ) (readable : Readable ws) (x y : ℕ) (some : x < y) (wi
       (λ i h d. ⊎-elim (λ (l : i < first). none-before i l) (λ (g : first ≤ i). none-after i (let n : i ≡ first → ⊥ = d in omega arith) h) (before-or-not i first))
 
   pub by-totals : ByTotals ws x y
-  by-totals = record { within-one = within-one; over-several = over-several }
+  by-totals = record { in-order = in-order; within-one = within-one; over-several = over-several }

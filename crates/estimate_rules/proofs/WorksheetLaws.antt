@@ -16,13 +16,14 @@ use Rattle.laws.specs.Each.{each, some}
 use Rattle.laws.specs.Tabulate.{tabulate}
 use Rattle.laws.proofs.EachLaws.{some-none, some-same, none-at}
 use Rattle.laws.proofs.RefusalLaws.{numbered, none-left, passed, refused as refused-at, none-true, append-passed, append-refused, append-first}
+use Rattle.laws.proofs.ReplyLaws.{lent-refused, lent-answered}
 use Rattle.laws.proofs.TabulateLaws.{length-tabulate, getD-tabulate}
 use Rattle.laws.proofs.Tests.{holds-left, neither, neither-left, neither-right}
 use Rattle.words_rules.specs.Words.{word, entries}
 use Rattle.words_rules.specs.Reading.{readSentences, readFault, Readable}
-use Rattle.estimate_rules.specs.Asking.{rangeFault, estimate, estimateReply}
+use Rattle.estimate_rules.specs.Asking.{rangeFault, estimateReply}
 use Rattle.estimate_rules.specs.Running.{runningTotal, totalPlaces, runningTotals, totalsShort, fillSentences, fillFault, fillReply, totalsFilled}
-use Rattle.estimate_rules.specs.Worksheet.{rangeCount, xAt, yAt, shortFault, totalsFault, rangesFault, worksheetSentences, worksheetFault, worksheetAnswers, worksheetReply, worksheetAnswered}
+use Rattle.estimate_rules.specs.Worksheet.{rangeCount, xAt, yAt, shortFault, wrongAt, totalsFault, refusedAt, rangesFault, worksheetSentences, worksheetFault, answerAt, worksheetAnswers, worksheetReply, worksheetAnswered}
 use Rattle.estimate_rules.proofs.AskingLaws.{reply-is}
 
 -- ---- a list that is written over the first places of another
@@ -82,14 +83,12 @@ module _ (ws : List ℕ) (lent : ℕ) where
 module _ (ws old : List ℕ) where
   pub fill-refused : (n : ℕ) → n ≡ fillFault ws (length old) → (n ≡ 0 → ⊥) → (refused n ≡ fillReply ws (length old)) × (old ≡ totalsFilled ws old)
   unfolding fillReply totalsFilled
-  fill-refused n e z =
-      let f = ne-eqb (fillFault ws (length old)) 0 (λ p. z (e ∙ p)) in
-      (simp f (ap refused e), simp f)
+  fill-refused n e z = lent-refused (fillFault ws (length old)) (totalPlaces ws) (runningTotals ws ++ drop (totalPlaces ws) old) old n e z
 
   pub fill-answered : fillFault ws (length old) ≡ 0
       → (answered (totalPlaces ws) ≡ fillReply ws (length old)) × (runningTotals ws ++ drop (totalPlaces ws) old ≡ totalsFilled ws old)
   unfolding fillReply totalsFilled
-  fill-answered e = let t = eq-eqb (fillFault ws (length old)) 0 e in (simp t, simp t)
+  fill-answered e = lent-answered (fillFault ws (length old)) (totalPlaces ws) (runningTotals ws ++ drop (totalPlaces ws) old) old e
 
   pub filled-past : (i : ℕ) → totalPlaces ws ≤ i → word (totalsFilled ws old) i ≡ word old i
   unfolding totalsFilled
@@ -105,7 +104,7 @@ module _ (ws old : List ℕ) where
   pub filled-fits : Readable ws → totalPlaces ws ≤ length old → totalsFault ws (totalsFilled ws old) ≡ false
   unfolding totalsFault
   filled-fits r h =
-      some-none (totalPlaces ws) (λ i. not (eqb (word (totalsFilled ws old) i) (runningTotal ws i)))
+      some-none (totalPlaces ws) (wrongAt ws (totalsFilled ws old))
       (λ i l. ap not (eq-eqb _ _ (ap (λ (l : List ℕ). word l i) (sym (fill-answered (fill-none ws (length old) r (le-ltb _ _ h)) .1)) ∙ over-at (totalPlaces ws) (runningTotal ws) old i l)))
 
 -- ---- answering
@@ -164,22 +163,19 @@ module _ (ws totals sheet : List ℕ) (lent : ℕ) where
 
 -- 21 by its parts
 module _ (ws sheet : List ℕ) where
-  abbrev refusedAt : ℕ → Bool
-  refusedAt i = rangeFault ws (xAt sheet i) (yAt sheet i)
-
   pub odd-fault : (length sheet % 2 ≡ 0 → ⊥) → rangesFault ws sheet ≡ true
   unfolding rangesFault
-  odd-fault h = holds-left _ (some (rangeCount sheet) refusedAt) (ap not (ne-eqb (length sheet % 2) 0 h))
+  odd-fault h = holds-left _ (some (rangeCount sheet) (refusedAt ws sheet)) (ap not (ne-eqb (length sheet % 2) 0 h))
 
-  pub even-fault : length sheet % 2 ≡ 0 → rangesFault ws sheet ≡ some (rangeCount sheet) (λ i. rangeFault ws (xAt sheet i) (yAt sheet i))
+  pub even-fault : length sheet % 2 ≡ 0 → rangesFault ws sheet ≡ some (rangeCount sheet) (refusedAt ws sheet)
   unfolding rangesFault
-  even-fault e = ap (λ (t : Bool). not t || some (rangeCount sheet) refusedAt) (eq-eqb (length sheet % 2) 0 e)
+  even-fault e = ap (λ (t : Bool). not t || some (rangeCount sheet) (refusedAt ws sheet)) (eq-eqb (length sheet % 2) 0 e)
 
 -- the ranges of a sheet that 21 does not refuse
 module _ (ws sheet : List ℕ) (h : rangesFault ws sheet ≡ false) (i : ℕ) (l : i < rangeCount sheet) where
-  in-list : rangeFault ws (xAt sheet i) (yAt sheet i) ≡ false
+  in-list : refusedAt ws sheet i ≡ false
   unfolding rangesFault
-  in-list = none-at (rangeCount sheet) (λ i. rangeFault ws (xAt sheet i) (yAt sheet i)) (neither-right (not (eqb (length sheet % 2) 0)) _ h) i l
+  in-list = none-at (rangeCount sheet) (refusedAt ws sheet) (neither-right (not (eqb (length sheet % 2) 0)) _ h) i l
 
   pub range-ordered : xAt sheet i ≤ yAt sheet i
   unfolding rangeFault
@@ -193,36 +189,31 @@ module _ (ws totals sheet old : List ℕ) where
   abbrev fault : ℕ
   fault = worksheetFault ws totals sheet (length old)
 
-  abbrev single : ℕ → ℕ
-  single i = estimate ws (xAt sheet i) (yAt sheet i)
-
   pub sheet-refused : (n : ℕ) → n ≡ worksheetFault ws totals sheet (length old) → (n ≡ 0 → ⊥)
       → (refused n ≡ worksheetReply ws totals sheet (length old)) × (old ≡ worksheetAnswered ws totals sheet old)
   unfolding worksheetReply worksheetAnswered
-  sheet-refused n e z =
-      let f = ne-eqb (worksheetFault ws totals sheet (length old)) 0 (λ p. z (e ∙ p)) in
-      (simp f (ap refused e), simp f)
+  sheet-refused n e z = lent-refused fault (rangeCount sheet) (worksheetAnswers ws sheet ++ drop (rangeCount sheet) old) old n e z
 
   pub sheet-answered : worksheetFault ws totals sheet (length old) ≡ 0
       → (answered (rangeCount sheet) ≡ worksheetReply ws totals sheet (length old)) × (worksheetAnswers ws sheet ++ drop (rangeCount sheet) old ≡ worksheetAnswered ws totals sheet old)
   unfolding worksheetReply worksheetAnswered
-  sheet-answered e = let t = eq-eqb (worksheetFault ws totals sheet (length old)) 0 e in (simp t, simp t)
+  sheet-answered e = lent-answered fault (rangeCount sheet) (worksheetAnswers ws sheet ++ drop (rangeCount sheet) old) old e
 
   pub each-single : worksheetFault ws totals sheet (length old) ≡ 0 → (i : ℕ) → i < rangeCount sheet
       → estimateReply ws (xAt sheet i) (yAt sheet i) ≡ answered (word (worksheetAnswered ws totals sheet old) i)
   each-single e i l =
       let h = sheet-in-list ws totals sheet (length old) e in
       reply-is ws (xAt sheet i) (yAt sheet i) (sheet-readable ws totals sheet (length old) e) (range-ordered ws sheet h i l) (range-within ws sheet h i l)
-      ∙ ap answered (sym (ap (λ (l : List ℕ). word l i) (sym (sheet-answered e .1)) ∙ over-at (rangeCount sheet) single old i l))
+      ∙ ap answered (sym (ap (λ (l : List ℕ). word l i) (sym (sheet-answered e .1)) ∙ over-at (rangeCount sheet) (answerAt ws sheet) old i l))
 
   pub answers-past : (i : ℕ) → rangeCount sheet ≤ i → word (worksheetAnswered ws totals sheet old) i ≡ word old i
   unfolding worksheetAnswered
-  answers-past i h = either (rangeCount sheet) single old (λ (l : List ℕ). word l i ≡ word old i) fault (λ _. over-past (rangeCount sheet) single old i h) refl
+  answers-past i h = either (rangeCount sheet) (answerAt ws sheet) old (λ (l : List ℕ). word l i ≡ word old i) fault (λ _. over-past (rangeCount sheet) (answerAt ws sheet) old i h) refl
 
   pub answers-length : length (worksheetAnswered ws totals sheet old) ≡ length old
   unfolding worksheetAnswered
   answers-length =
-      either (rangeCount sheet) single old (λ (l : List ℕ). length l ≡ length old) fault (λ e. over-length (rangeCount sheet) single old (sheet-room ws totals sheet (length old) e)) refl
+      either (rangeCount sheet) (answerAt ws sheet) old (λ (l : List ℕ). length l ≡ length old) fault (λ e. over-length (rangeCount sheet) (answerAt ws sheet) old (sheet-room ws totals sheet (length old) e)) refl
 
 module _ (ws totals sheet : List ℕ) (lent : ℕ) where
   same-short : shortFault ws (take (totalPlaces ws) totals) sheet lent ≡ shortFault ws totals sheet lent

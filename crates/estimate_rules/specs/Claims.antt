@@ -57,6 +57,7 @@ pub record RunningTotals : Type 0 where
 
 -- the sum of a range from x to y, by the buckets of its first and its last entry
 pub record ByTotals (ws : List ℕ) (x y : ℕ) : Type 0 where
+  pub in-order : bucketOf ws x ≤ bucketOf ws (y - 1)
   pub within-one : bucketOf ws x ≡ bucketOf ws (y - 1) → exact ws x y ≡ bucketPiece ws x y (bucketOf ws x)
   pub over-several : bucketOf ws x < bucketOf ws (y - 1)
       → exact ws x y ≡ plus (plus (bucketPiece ws x y (bucketOf ws x)) (number (runningTotal ws (bucketOf ws (y - 1)) - runningTotal ws (bucketOf ws x + 1)))) (bucketPiece ws x y (bucketOf ws (y - 1)))

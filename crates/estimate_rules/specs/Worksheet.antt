@@ -31,12 +31,20 @@ unfoldable pub shortFault : List ℕ → List ℕ → List ℕ → ℕ → Bool
 shortFault ws totals sheet lent = totalsShort ws (length totals) || ltb lent (rangeCount sheet)
 
 -- 20: one of the places needed does not hold its running total; those past them are not looked at
+
+abbrev pub wrongAt : List ℕ → List ℕ → ℕ → Bool
+wrongAt ws totals i = not (eqb (word totals i) (runningTotal ws i))
+
 unfoldable pub totalsFault : List ℕ → List ℕ → Bool
-totalsFault ws totals = some (totalPlaces ws) (λ i. not (eqb (word totals i) (runningTotal ws i)))
+totalsFault ws totals = some (totalPlaces ws) (wrongAt ws totals)
 
 -- 21: the sheet's length is odd, or 14 would refuse one of its ranges
+
+abbrev pub refusedAt : List ℕ → List ℕ → ℕ → Bool
+refusedAt ws sheet i = rangeFault ws (xAt sheet i) (yAt sheet i)
+
 unfoldable pub rangesFault : List ℕ → List ℕ → Bool
-rangesFault ws sheet = not (eqb (length sheet % 2) 0) || some (rangeCount sheet) (λ i. rangeFault ws (xAt sheet i) (yAt sheet i))
+rangesFault ws sheet = not (eqb (length sheet % 2) 0) || some (rangeCount sheet) (refusedAt ws sheet)
 
 -- what is tested of a readable list
 abbrev pub worksheetSentences : List ℕ → List ℕ → List ℕ → ℕ → List Sentence
@@ -50,8 +58,12 @@ abbrev pub worksheetFault : List ℕ → List ℕ → List ℕ → ℕ → ℕ
 worksheetFault ws totals sheet lent = refusal (readSentences ws ++ worksheetSentences ws totals sheet lent)
 
 -- the answers: of each range, in order, "the one the single call gives"
+
+abbrev pub answerAt : List ℕ → List ℕ → ℕ → ℕ
+answerAt ws sheet i = estimate ws (xAt sheet i) (yAt sheet i)
+
 abbrev pub worksheetAnswers : List ℕ → List ℕ → List ℕ
-worksheetAnswers ws sheet = tabulate (rangeCount sheet) (λ i. estimate ws (xAt sheet i) (yAt sheet i))
+worksheetAnswers ws sheet = tabulate (rangeCount sheet) (answerAt ws sheet)
 
 -- the number of answers written
 unfoldable pub worksheetReply : List ℕ → List ℕ → List ℕ → ℕ → Reply

@@ -2,12 +2,10 @@
 -- are small.
 -- Assumes nothing.
 use mathlib.Core.Path.{_≡_, sym, ap, subst, _∙_}
-use mathlib.Core.Bool.{not}
 use mathlib.Core.List.{List}
 use Prim.Native.Nat.{ℕ, suc, _+_, _-_, _≤_, _<_}
 use native.Mathlib.Omega.{arith}
 use borrow.Author.Tests.{eqb-true, not-false}
-use lib.Dec.{eqb}
 use Rattle.laws.proofs.EachLaws.{none-at}
 use Rattle.words_rules.specs.Words.{word, entries, buckets}
 use Rattle.words_rules.specs.Finding.{bucketOf, bucketByHalving}
@@ -16,7 +14,7 @@ use Rattle.estimate_rules.specs.declared.Fraction.{Fraction}
 use Rattle.estimate_rules.specs.Fraction.{number, plus, sumOf}
 use Rattle.estimate_rules.specs.Exact.{bucketPiece, exact}
 use Rattle.estimate_rules.specs.Running.{runningTotal, totalPlaces}
-use Rattle.estimate_rules.specs.Worksheet.{totalsFault}
+use Rattle.estimate_rules.specs.Worksheet.{wrongAt, totalsFault}
 use Rattle.estimate_rules.proofs.RunningLaws.{running-rises, in-first, in-last, in-order, sum-before, sum-last, by-totals}
 use Rattle.estimator.specs.Private.Adding.{Small}
 use Rattle.estimator.specs.Private.Sheets.{WithTotals}
@@ -26,7 +24,7 @@ use Rattle.estimator.proofs.WalkLaws.{buckets-small}
 total-is : (ws totals : List ℕ) → WithTotals ws totals → (i : ℕ) → i ≤ buckets ws → word totals i ≡ runningTotal ws i
 unfolding totalsFault
 total-is ws totals t i h =
-    eqb-true _ _ (not-false _ (none-at (totalPlaces ws) (λ i. not (eqb (word totals i) (runningTotal ws i))) (t .right) i (omega arith)))
+    eqb-true _ _ (not-false _ (none-at (totalPlaces ws) (wrongAt ws totals) (t .right) i (omega arith)))
 
 pub few : (ws totals : List ℕ) → WithTotals ws totals → buckets ws ≤ 65536
 few ws totals t = let l = histogram .limits ws (t .readable) in omega (arith, l .most-buckets, l .most-entries)

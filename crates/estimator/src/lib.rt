@@ -87,9 +87,9 @@ pub fn fill_totals(words: &[u32], out: &mut [u64]) -> Filled
     ensures { λ r. ⌜ r ≡ filledOf (fillReply (now (words .entry)) (length (now (out .entry)))) ⌝ }
     ensures { λ r. ⌜ now (out .exit) ≡ totalsFilled (now (words .entry)) (now (out .entry)) ⌝ }
 {
-    let refusal = fill_fault(words, out.len());
-    if refusal != 0 {
-        return Filled::Refused(refusal);
+    let fault = fill_fault(words, out.len());
+    if fault != 0 {
+        return Filled::Refused(fault);
     }
     Filled::Places(put_totals(words, out))
 }
@@ -101,9 +101,9 @@ pub fn answer_worksheet(words: &[u32], totals: &[u64], sheet: &[u32], out: &mut 
     ensures { λ r. ⌜ r ≡ answeredOf (worksheetReply (now (words .entry)) (now (totals .entry)) (now (sheet .entry)) (length (now (out .entry)))) ⌝ }
     ensures { λ r. ⌜ now (out .exit) ≡ worksheetAnswered (now (words .entry)) (now (totals .entry)) (now (sheet .entry)) (now (out .entry)) ⌝ }
 {
-    let number = worksheet_fault(words, totals, sheet, out.len());
-    if number != 0 {
-        return Answered::Refused(number);
+    let fault = worksheet_fault(words, totals, sheet, out.len());
+    if fault != 0 {
+        return Answered::Refused(fault);
     }
     Answered::Answers(put_answers(words, totals, sheet, out))
 }

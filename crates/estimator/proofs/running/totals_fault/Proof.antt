@@ -1,9 +1,8 @@
 -- `estimator::running::totals_fault` meets its contract. At the loop all places before b hold their running totals, and the sum is that at b.
 -- Assumes nothing.
 use mathlib.Core.Path.{_≡_, sym, ap, _∙_}
-use mathlib.Core.Bool.{Bool, not}
-use mathlib.Core.List.{List}
-use Prim.Native.Nat.{ℕ, suc, _-_, _≤_}
+use mathlib.Core.Bool.{not}
+use Prim.Native.Nat.{suc, _-_, _≤_}
 use native.Mathlib.Numerals.{add-one}
 use native.Mathlib.Omega.{arith}
 use borrow.Author.Needs.{needs}
@@ -12,17 +11,13 @@ use lib.Dec.{eqb}
 use Rattle.laws.proofs.EachLaws.{NoneBefore, none-yet, none-more, some-found, last-found}
 use Rattle.words_rules.specs.Words.{word}
 use Rattle.estimate_rules.specs.Running.{runningTotal, totalPlaces}
-use Rattle.estimate_rules.specs.Worksheet.{totalsFault}
+use Rattle.estimate_rules.specs.Worksheet.{wrongAt, totalsFault}
 use Rattle.estimate_rules.proofs.RunningLaws.{running-none, running-next, running-small}
 use Rattle.estimator.proofs.running.totals_fault.Statement.{statement}
 use Rattle.estimator.proofs.running.totals_fault.Tie as tie
 
--- place i does not hold its running total
-abbrev wrong : List ℕ → List ℕ → ℕ → Bool
-wrong ws totals i = not (eqb (word totals i) (runningTotal ws i))
-
 abbrev Inv-loop : tie.InvT-loop
-Inv-loop words totals buckets right₀ b₀ right b = (b ≤ buckets) × (right ≡ runningTotal words b) × NoneBefore (totalPlaces words) (wrong words totals) b
+Inv-loop words totals buckets right₀ b₀ right b = (b ≤ buckets) × (right ≡ runningTotal words b) × NoneBefore (totalPlaces words) (wrongAt words totals) b
 
 abbrev μ-loop : tie.MeasureT-loop
 μ-loop words totals buckets right₀ b₀ right b = buckets - b
@@ -33,7 +28,7 @@ cast-buckets c = search needs
 loop-holds : tie.Need-loop-holds Inv-loop μ-loop
 loop-holds c =
     let a = c .before .before .before .args in
-    (omega arith, sym (running-none (a .words .now)), none-yet (totalPlaces (a .words .now)) (wrong (a .words .now) (a .totals .now)))
+    (omega arith, sym (running-none (a .words .now)), none-yet (totalPlaces (a .words .now)) (wrongAt (a .words .now) (a .totals .now)))
 
 mul-if1 : tie.Need-mul-if1 Inv-loop μ-loop
 mul-if1 c = search needs
@@ -46,7 +41,7 @@ unfolding totalsFault
 returns c =
     let a = c .before .before .before .before .before .before .before .args in
     let l = c .before .before .before .loop in
-    some-found (totalPlaces (a .words .now)) (wrong (a .words .now) (a .totals .now)) (l .b) (omega (arith, c .before .before .before .before .bucket-count .ensures))
+    some-found (totalPlaces (a .words .now)) (wrongAt (a .words .now) (a .totals .now)) (l .b) (omega (arith, c .before .before .before .before .bucket-count .ensures))
     (ap not (ne-eqb (word (a .totals .now) (l .b)) (runningTotal (a .words .now) (l .b)) (λ e. omega (arith, l .inv .1))))
 
 bucket-total-requires : tie.Need-bucket-total-requires Inv-loop μ-loop
@@ -72,7 +67,7 @@ loop-again c =
     let n = c .before .before .before .before .before .bucket-count .ensures in (
       omega arith,
       rw (add-one (l .b)) (omega (arith, c .bucket-total .ensures, l .inv .1, running-next ws (l .b))),
-      none-more (totalPlaces ws) (wrong ws (s .args .totals .now)) (l .b) (omega arith) (l .inv .2)
+      none-more (totalPlaces ws) (wrongAt ws (s .args .totals .now)) (l .b) (omega arith) (l .inv .2)
           (ap not (eq-eqb (word (s .args .totals .now) (l .b)) (runningTotal ws (l .b)) (omega (arith, l .inv .1)))),
     )
 
@@ -89,7 +84,7 @@ returns-2 c =
     let l = c .before .before .loop in
     let last : c .before .before .before .bucket-count .result ≡ l .b = omega (arith, l .inv .0) in
     (λ i. not (eqb (word (a .totals .now) (last i)) (l .inv .1 i)))
-    ∙ last-found (totalPlaces (a .words .now)) (wrong (a .words .now) (a .totals .now)) (l .b) (omega (arith, c .before .before .before .bucket-count .ensures)) (l .inv .2)
+    ∙ last-found (totalPlaces (a .words .now)) (wrongAt (a .words .now) (a .totals .now)) (l .b) (omega (arith, c .before .before .before .bucket-count .ensures)) (l .inv .2)
 
 pub totals-fault-spec : {M : Type 1} → statement M
 totals-fault-spec =

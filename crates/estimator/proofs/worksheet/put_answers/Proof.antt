@@ -1,24 +1,19 @@
 -- `estimator::worksheet::put_answers` meets its contract. At the loop the estimates of the ranges before i are written.
 -- Assumes nothing.
 use mathlib.Core.Path.{_≡_, refl, _∙_}
-use mathlib.Core.List.{List}
-use Prim.Native.Nat.{ℕ, _-_}
+use Prim.Native.Nat.{_-_}
 use native.Mathlib.Omega.{arith}
 use borrow.Author.Needs.{needs}
 use lib.ListN.{length, length-set}
 use Rattle.laws.proofs.TabulateLaws.{Written, none-written, one-written, all-written}
 use Rattle.estimate_rules.specs.Asking.{estimate}
-use Rattle.estimate_rules.specs.Worksheet.{rangeCount, xAt, yAt}
+use Rattle.estimate_rules.specs.Worksheet.{rangeCount, answerAt}
 use Rattle.estimate_rules.proofs.WorksheetLaws.{range-ordered, range-within}
 use Rattle.estimator.proofs.worksheet.put_answers.Statement.{statement}
 use Rattle.estimator.proofs.worksheet.put_answers.Tie as tie
 
--- the estimate of range i
-abbrev single : List ℕ → List ℕ → ℕ → ℕ
-single ws sheet i = estimate ws (xAt sheet i) (yAt sheet i)
-
 abbrev Inv-loop : tie.InvT-loop
-Inv-loop words totals sheet out₀ ranges i₀ out i = Written (rangeCount sheet) (single words sheet) out₀ i out × (length out ≡ length out₀)
+Inv-loop words totals sheet out₀ ranges i₀ out i = Written (rangeCount sheet) (answerAt words sheet) out₀ i out × (length out ≡ length out₀)
 
 abbrev μ-loop : tie.MeasureT-loop
 μ-loop words totals sheet out₀ ranges i₀ out i = rangeCount sheet - i
@@ -26,7 +21,7 @@ abbrev μ-loop : tie.MeasureT-loop
 loop-holds : tie.Need-loop-holds Inv-loop μ-loop
 loop-holds c =
     let s = c .before .before .before .before in
-    (none-written (rangeCount (s .args .sheet .now)) (single (s .args .words .now) (s .args .sheet .now)) (s .args .out .now) (s .pre .room), refl)
+    (none-written (rangeCount (s .args .sheet .now)) (answerAt (s .args .words .now) (s .args .sheet .now)) (s .args .out .now) (s .pre .room), refl)
 
 x-at-requires : tie.Need-x-at-requires Inv-loop μ-loop
 x-at-requires c κs = omega arith
@@ -67,7 +62,7 @@ loop-again c =
     let sheet = s .args .sheet .now in
     let x = c .before .before .x-at .ensures in
     let y = c .before .y-at .ensures in (
-      one-written (rangeCount sheet) (single ws sheet) (s .args .out .now) (s .pre .room) (l .i) (l .out) (l .inv .0) _ (omega arith)
+      one-written (rangeCount sheet) (answerAt ws sheet) (s .args .out .now) (s .pre .room) (l .i) (l .out) (l .inv .0) _ (omega arith)
           (c .estimate-by .ensures ∙ (λ i. estimate ws (x i) (y i))),
       length-set (l .out) (l .i) _ ∙ l .inv .1,
     )
@@ -80,7 +75,7 @@ returns c =
     let s = c .before .before .before .before .before .before in
     let l = c .before .loop in
     let sheet = s .args .sheet .now in
-    (refl, all-written (rangeCount sheet) (single (s .args .words .now) sheet) (s .args .out .now) (s .pre .room) (l .i) (l .out) (l .inv .0) (omega arith))
+    (refl, all-written (rangeCount sheet) (answerAt (s .args .words .now) sheet) (s .args .out .now) (s .pre .room) (l .i) (l .out) (l .inv .0) (omega arith))
 
 pub put-answers-spec : {M : Type 1} → statement M
 put-answers-spec =
