@@ -1,5 +1,5 @@
-/* Builds the histogram of a list of four entries, checks it, estimates three ranges, one by one and as a worksheet, and
- * finds a bucket. */
+/* Builds the histogram of a list of four entries, checks it, estimates three ranges, one by one and as a worksheet, and a
+ * search of two, and finds a bucket. */
 #include <inttypes.h>
 #include <qh.h>
 #include <stdio.h>
@@ -16,6 +16,7 @@ static int refused(const char *call, uint32_t refusal) {
 int main(void) {
     const uint32_t freqs[ENTRIES] = {10, 10, 10, 10};
     const uint32_t ranges[] = {1, 3, 0, 3, 0, 4}; /* two numbers each */
+    const uint32_t forms[] = {0, 1, 2, 4};        /* in order and apart */
     uint32_t words[QH_WORDS_FOR(ENTRIES)];
     uint64_t totals[QH_TOTALS_FOR(ENTRIES)], answers[3];
 
@@ -38,6 +39,12 @@ int main(void) {
         }
         printf("%" PRIu32 " to %" PRIu32 ": %" PRIu64 "\n", ranges[i], ranges[i + 1], answer.estimate);
     }
+
+    QhEstimate search = qh_estimate_search(words, built.words, forms, 4);
+    if (refused("qh_estimate_search", search.refusal)) {
+        return 1;
+    }
+    printf("0 to 1 and 2 to 4 together: %" PRIu64 "\n", search.estimate);
 
     QhFilled filled = qh_fill_totals(words, built.words, totals, QH_TOTALS_FOR(ENTRIES));
     if (refused("qh_fill_totals", filled.refusal)) {

@@ -171,6 +171,36 @@ static void estimates(void) {
     estimated("3 to 5 of two", qh_estimate(LIST(two), 3, 5), (QhEstimate){.estimate = 7});
 }
 
+/* "most", "too-many", "order" and the others of searches in estimate_rules/specs/Worked.antt. */
+static void searches(void) {
+    const uint32_t one[] = {1, 3}, touching[] = {0, 2, 2, 4}, each[] = {0, 1, 1, 2, 2, 3, 3, 4};
+    const uint32_t broken[] = {0, 5, 7}, turned[] = {3, 2, 2, 4}, early[] = {0, 3, 2, 4}, early_too[] = {0, 3, 2, 4, 7};
+    const uint32_t over[] = {1, 4, 4, 8, 8, 11};
+    uint32_t many[34] = {0};
+    estimated("1 to 3 searched", qh_estimate_search(LIST(tens), LIST(one)), (QhEstimate){.estimate = 17});
+    estimated("0 to 2 and 2 to 4", qh_estimate_search(LIST(tens), LIST(touching)), (QhEstimate){.estimate = 34});
+    estimated("each of tens", qh_estimate_search(LIST(tens), LIST(each)), (QhEstimate){.estimate = 36});
+    estimated("over three buckets", qh_estimate_search(LIST(three), LIST(over)), (QhEstimate){.estimate = 102});
+    estimated("0 to 5 and a word", qh_estimate_search(LIST(tens), LIST(broken)), (QhEstimate){.refusal = QH_REFUSED_RANGE});
+    estimated("3 to 2 and 2 to 4", qh_estimate_search(LIST(tens), LIST(turned)), (QhEstimate){.refusal = QH_REFUSED_RANGE});
+    estimated("a word", qh_estimate_search(LIST(tens), broken, 1), (QhEstimate){.refusal = QH_REFUSED_RANGE_COUNT});
+    estimated("no range", qh_estimate_search(LIST(tens), one, 0), (QhEstimate){.refusal = QH_REFUSED_RANGE_COUNT});
+    estimated("0 to 3 and 2 to 4", qh_estimate_search(LIST(tens), LIST(early)),
+              (QhEstimate){.refusal = QH_REFUSED_RANGE_ORDER});
+    estimated("and a word", qh_estimate_search(LIST(tens), LIST(early_too)),
+              (QhEstimate){.refusal = QH_REFUSED_RANGE_COUNT});
+    many[31] = many[32] = many[33] = 4; /* fifteen empty ranges, 0 to 4, and 4 to 4 */
+    estimated("sixteen ranges", qh_estimate_search(LIST(tens), many, 32), (QhEstimate){.estimate = 40});
+    estimated("and a word", qh_estimate_search(LIST(tens), many, 33), (QhEstimate){.refusal = QH_REFUSED_RANGE_COUNT});
+    estimated("seventeen ranges", qh_estimate_search(LIST(tens), LIST(many)),
+              (QhEstimate){.refusal = QH_REFUSED_RANGE_COUNT});
+    many[33] = 5;
+    estimated("4 to 5 at last", qh_estimate_search(LIST(tens), LIST(many)), (QhEstimate){.refusal = QH_REFUSED_RANGE});
+    estimated("no range of q 9/1", qh_estimate_search(LIST(q_9), one, 0), (QhEstimate){.refusal = QH_REFUSED_LARGE_Q});
+    estimated("no range of eight words", qh_estimate_search(tens, 8, one, 0),
+              (QhEstimate){.refusal = QH_REFUSED_WORD_COUNT});
+}
+
 static uint64_t places[8];
 
 /* Compares what was written into places, also past it, and marks them for the next. */
@@ -309,6 +339,7 @@ int main(void) {
     builds();
     verdicts();
     estimates();
+    searches();
     worksheets();
     buckets();
     sheets();

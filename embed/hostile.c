@@ -74,6 +74,43 @@ static void try_range(const uint32_t *list, size_t len, uint32_t x, uint32_t y) 
     judge("qh_find", found.refusal, found.refusal == 0 ? found.at >= 4 && found.at + 5 <= len : found.at == 0);
 }
 
+/* Searches the first so many ends, compared with the sum of single calls. */
+static void try_search(const uint32_t *list, size_t len, const uint32_t *ends, size_t number) {
+    uint32_t *ranges = copied(ends, number * sizeof *ends);
+    QhEstimate answer = qh_estimate_search(list, len, ranges, number);
+    uint64_t sum = 0;
+    bool single = true;
+    for (size_t i = 0; answer.refusal == 0 && i + 1 < number; i += 2) {
+        QhEstimate part = qh_estimate(list, len, ranges[i], ranges[i + 1]);
+        single = single && part.refusal == 0 && (i == 0 || ranges[i - 1] <= ranges[i]);
+        sum += part.estimate;
+    }
+    bool taken = number % 2 == 0 && number >= 2 && number <= 32 && single;
+    judge("qh_estimate_search", answer.refusal, answer.estimate == sum && (answer.refusal != 0 || taken));
+    free(ranges);
+}
+
+/* Searches of every length, in order and not, with the words for ranges among them. */
+static void try_searches(const uint32_t *list, size_t len) {
+    const uint32_t d = (uint32_t)volume;
+    uint32_t ends[36];
+    for (size_t i = 0; i < 36; i++) {
+        ends[i] = i < 4 ? (uint32_t)i : d;
+    }
+    for (size_t n = 0; n <= 36; n++) {
+        try_search(list, len, ends, n);
+    }
+    ends[35] = d + 1;
+    try_search(list, len, ends, 36);
+    ends[2] = 0;
+    try_search(list, len, ends, 8);
+    ends[7] = UINT32_MAX;
+    try_search(list, len, ends, 8);
+    ends[7] = random_word() % (d + 1);
+    try_search(list, len, ends, 8);
+    try_search(list, len, list, len);
+}
+
 static void try_check(const uint32_t *list, size_t list_len, const uint32_t *lent_words, size_t len) {
     QhVerdict v = qh_check(list, list_len, lent_words, len);
     bool sort = v.sort == QH_SORT_BUCKETLET || v.sort == QH_SORT_PART || v.sort == QH_SORT_BUCKET;
@@ -150,6 +187,7 @@ static void try_words(const uint32_t *from, size_t len) {
         try_range(list, len, ends[i], ends[5 - i]);
     }
     try_range(list, len, 0, (uint32_t)volume);
+    try_searches(list, len);
     try_check(freqs, volume, list, len);
     try_check(list, len, list, len);
     try_totals(list, len, len / 5 + 1);
@@ -207,6 +245,10 @@ static void empty_list(uint32_t *list, uint64_t *places, uint8_t *bytes) {
     try_check(list, 0, words, words_len);
     try_check(freqs, volume, list, 0);
     try_range(list, 0, 0, 0);
+    QhEstimate searched = qh_estimate_search(list, 0, list, 0);
+    judge("qh_estimate_search of no list", searched.refusal, searched.refusal == QH_REFUSED_HEAD && searched.estimate == 0);
+    searched = qh_estimate_search(words, words_len, list, 0);
+    judge("qh_estimate_search of no range", searched.refusal, searched.refusal == QH_REFUSED_RANGE_COUNT && searched.estimate == 0);
     QhFilled filled = qh_fill_totals(words, words_len, places, 0);
     judge("qh_fill_totals into no list", filled.refusal, filled.refusal == QH_REFUSED_PLACES && filled.places == 0);
     QhAnswered answer = qh_answer_worksheet(list, 0, places, 0, list, 0, places, 0);

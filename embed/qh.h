@@ -3,9 +3,9 @@
  * not small. To be linked with libqh.a.
  *
  * An e-book reader carries one ordered list of word forms, each with the number of times it occurs. qh_build makes a
- * small histogram of the list; qh_estimate then says from that alone about how many hits a range of forms has, and
- * qh_answer_worksheet does so for many ranges at once. qh_check tells whether a histogram is fit for a list, and qh_find
- * which of its buckets holds an entry.
+ * small histogram of the list; qh_estimate then says from that alone about how many hits a range of forms has,
+ * qh_estimate_search how many several ranges have together, and qh_answer_worksheet how many each of many has. qh_check
+ * tells whether a histogram is fit for a list, and qh_find which of its buckets holds an entry.
  *
  * The terms
  *   entry      the place of a word form in the list, 0 to d - 1, where d is the length of the list
@@ -18,13 +18,17 @@
  *              They are numbers: a program that stores them as bytes must see to the byte order itself.
  *   running    kept beside a histogram for worksheets, 64 bits each: at place i the sum of the numbers that the totals of
  *   totals     the buckets before bucket i stand for, and one last place for all
- *   worksheet  a list of ranges, two numbers each: the x and the y of the first, those of the second, and so on
+ *   search     one to sixteen ranges that are looked up together, as those of an irregular verb; none starts before the
+ *              one ahead of it ends
+ *   worksheet  a list of ranges that are each looked up by themselves. Ranges are lent as two numbers each: the x and the
+ *              y of the first, those of the second, and so on.
  *
  * How close they come
  *   The histograms of qh_build, and all others that qh_check accepts for the list, keep this for every range within
- *   the list and every whole k of at least 3: where the count or the estimate is above k * theta, the count is at most
- *   f times the estimate and the estimate less 1 is below f times the count, with f = q * k / (k - 2). Where both are at
- *   most 3 * theta nothing is promised in general.
+ *   the list and every whole k of at least 3: where the count or the estimate is above k * theta, each of the two is
+ *   below f times the other, with f = q * k / (k - 2). Of r ranges together, their counts and estimates added up, it is
+ *   the same for every whole k above 2 * r, with f = q * k / (k - 2 * r). Whatever its size, the count of a range is at
+ *   most q times the estimate plus 2 * theta, and the estimate at most q times the count plus 2 * theta.
  *
  * For every call
  *   - Nothing needs checking beforehand: each call answers every input, and none has a precondition but those under
@@ -75,7 +79,7 @@ extern "C" {
 /* The length of the list `out` of qh_sheet, in bytes. */
 #define QH_SHEET_BYTES 163840
 
-/* The refusals by name. The numbers 2, 22 and 23 have no sentence. */
+/* The refusals by name. The number 2 has no sentence. */
 enum {
     QH_REFUSED_LIST_LENGTH = 1,
     QH_REFUSED_SUM = 3,
@@ -97,6 +101,8 @@ enum {
     QH_REFUSED_PLACES = 19,
     QH_REFUSED_TOTALS = 20,
     QH_REFUSED_WORKSHEET = 21,
+    QH_REFUSED_RANGE_COUNT = 22,
+    QH_REFUSED_RANGE_ORDER = 23,
     QH_REFUSED_LARGE_Q = 24
 };
 
@@ -123,6 +129,8 @@ static inline const char *qh_sentence(uint32_t refusal) {
     case QH_REFUSED_PLACES: return "The list of running totals has fewer places than the buckets plus one, or that of answers fewer than half the worksheet's length, rounded down.";
     case QH_REFUSED_TOTALS: return "A running total is not the sum of what the totals of the buckets before its place stand for.";
     case QH_REFUSED_WORKSHEET: return "The worksheet's length is odd, or in one of its ranges x is above y, or y is above d.";
+    case QH_REFUSED_RANGE_COUNT: return "The search has no range, more than sixteen, or a word left over.";
+    case QH_REFUSED_RANGE_ORDER: return "A range of the search starts before the one ahead of it ends.";
     case QH_REFUSED_LARGE_Q: return "q is above 8.";
     default: return NULL;
     }
@@ -174,6 +182,12 @@ typedef struct {
  * other bucketlets that do, and the share of each bucketlet that it cuts, all in one sum that is rounded up, and 1 where
  * the sum is 0; but 0 if the range is empty. Refused with 7, 24, 8 to 12, then 14. */
 QhEstimate qh_estimate(const uint32_t *words, size_t words_len, uint32_t x, uint32_t y);
+
+/* The estimated count of a search: the sum of what qh_estimate answers for each of its ranges, two numbers a range, of
+ * which there are one to sixteen; ranges_len is twice their number. A range may be empty, and may start where the one
+ * ahead of it ends. The histogram is tested once. Refused with 7, 24, 8 to 12, then 14 for any of the ranges, also one
+ * past the sixteenth, then 22 and 23. */
+QhEstimate qh_estimate_search(const uint32_t *words, size_t words_len, const uint32_t *ranges, size_t ranges_len);
 
 typedef struct {
     uint32_t refusal;

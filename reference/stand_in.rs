@@ -102,6 +102,18 @@ pub unsafe extern "C" fn qh_answer_worksheet(
 }
 
 /// # Safety
+/// As above.
+#[no_mangle]
+pub unsafe extern "C" fn qh_estimate_search(
+    words: *const u32,
+    length: usize,
+    ranges: *const u32,
+    ranges_length: usize,
+) -> QhEstimate {
+    REFERENCE.estimate_search(from_raw_parts(words, length), from_raw_parts(ranges, ranges_length))
+}
+
+/// # Safety
 /// As above, with exactly `SHEET_BYTES` bytes lent.
 #[no_mangle]
 pub unsafe extern "C" fn qh_sheet(input: *const u8, length: usize, lent: *mut u8) -> usize {

@@ -1,12 +1,18 @@
-//! Demand 3: on an accepted pair, for whole k from 3, a range whose true count or estimate is
-//! above k theta has the two within q k/(k - 2) of each other, where the estimate is allowed
-//! the less than 1 that rounding up adds. Of a range whose sum is 0 this says nothing: its count
-//! is 0, and its estimate at most 1.
+//! The accuracy rule: on an accepted pair, for r ranges and a whole k above 2r, if their true count or their answer,
+//! the sum of their estimates, is above k theta, then the two are within q k/(k - 2r) of each other. For one range this
+//! is demand 3. The ranges need no order. Of ranges whose sums are all 0 it says nothing: their count is 0, and their
+//! answer at most r.
 
 use crate::list::Bound;
+use std::iter::Sum;
 
-/// The k that are tried.
+/// The k that are tried of one range.
 pub const KS: [u32; 11] = [3, 4, 5, 6, 7, 8, 9, 10, 11, 12, 100];
+
+/// The same for more ranges, as far above twice their number.
+pub fn k_of(ranges: u64, k: u32) -> u64 {
+    u64::from(k) - 2 + 2 * ranges
+}
 
 /// Which of the two numbers is the larger.
 #[derive(Clone, Copy, Debug, PartialEq, Eq)]
@@ -17,11 +23,18 @@ pub enum Side {
 
 pub const SIDES: [Side; 2] = [Side::Count, Side::Estimate];
 
-/// A range's true count and its answered estimate.
+/// The true count of some ranges, and the sum of their answered estimates.
 #[derive(Clone, Copy, Debug, PartialEq, Eq)]
 pub struct Pair {
     pub count: u64,
     pub estimate: u64,
+}
+
+impl Sum for Pair {
+    fn sum<I: Iterator<Item = Pair>>(pairs: I) -> Pair {
+        let none = Pair { count: 0, estimate: 0 };
+        pairs.fold(none, |a, b| Pair { count: a.count + b.count, estimate: a.estimate + b.estimate })
+    }
 }
 
 /// How much of a promised factor is used up, as a fraction.
@@ -41,32 +54,99 @@ impl Used {
     }
 }
 
-impl Pair {
-    /// Whether demand 3 speaks of the range. A count of just k theta is taken in too, since
-    /// the factor holds there as well.
-    pub fn applies(self, bound: Bound, k: u32) -> bool {
-        let edge = u64::from(k) * u64::from(bound.theta);
-        self.count >= edge || self.estimate > edge
+/// How the rule is stated.
+#[derive(Clone, Copy, Debug, PartialEq, Eq)]
+pub enum Form {
+    /// As demand 3 and request (ii) ask: the answer is allowed the less than 1 that rounding up adds to each range.
+    Asked,
+    /// Nothing is allowed for rounding, and neither number reaches that multiple of the other.
+    Stronger,
+}
+
+pub const FORMS: [Form; 2] = [Form::Asked, Form::Stronger];
+
+/// The rule for so many ranges and one k above twice their number.
+#[derive(Clone, Copy, Debug, PartialEq, Eq)]
+pub struct Rule {
+    pub form: Form,
+    pub bound: Bound,
+    pub ranges: u64,
+    pub k: u64,
+}
+
+impl Rule {
+    /// Demand 3.
+    pub fn of_one_range(bound: Bound, k: u32) -> Rule {
+        Rule { form: Form::Asked, bound, ranges: 1, k: k.into() }
     }
 
-    /// Count over estimate, or estimate less 1 over count, as a share of the promised factor:
-    /// at most 1 by the count, below 1 by the estimate.
-    pub fn used(self, bound: Bound, k: u32, side: Side) -> Used {
-        let (a, b) = match side {
-            Side::Count => (self.count, self.estimate),
-            Side::Estimate => (self.estimate.saturating_sub(1), self.count),
+    /// By how much k is above 2r.
+    fn above(self) -> u64 {
+        self.k - 2 * self.ranges
+    }
+
+    /// Whether the rule speaks of the ranges. As it is asked, a count of just k theta is taken in too, since the factor
+    /// holds there as well.
+    pub fn applies(self, pair: Pair) -> bool {
+        let edge = self.k * u64::from(self.bound.theta);
+        match self.form {
+            Form::Asked => pair.count >= edge || pair.estimate >= edge + self.ranges,
+            Form::Stronger => pair.count > edge || pair.estimate > edge,
+        }
+    }
+
+    /// Count over answer, or answer over count, as a share of the promised factor. As it is asked, one for each range
+    /// is taken off the answer where that is the larger.
+    pub fn used(self, pair: Pair, side: Side) -> Used {
+        let allowed = match self.form {
+            Form::Asked => self.ranges,
+            Form::Stronger => 0,
         };
-        let (qn, qd, k) = (u64::from(bound.qn), u64::from(bound.qd), u64::from(k));
-        Used { numerator: u128::from(a) * u128::from(qd * (k - 2)), denominator: u128::from(b) * u128::from(qn * k) }
+        let (a, b) = match side {
+            Side::Count => (pair.count, pair.estimate),
+            Side::Estimate => (pair.estimate.saturating_sub(allowed), pair.count),
+        };
+        let [qn, qd, k, above] = [self.bound.qn.into(), self.bound.qd.into(), self.k, self.above()].map(u128::from);
+        Used { numerator: u128::from(a) * qd * above, denominator: u128::from(b) * qn * k }
     }
 
-    pub fn holds(self, bound: Bound, k: u32) -> bool {
-        let [count, estimate] = SIDES.map(|side| self.used(bound, k, side));
-        count.numerator <= count.denominator && estimate.numerator < estimate.denominator
+    /// The share is below 1; as it is asked, the count's may be 1.
+    pub fn holds(self, pair: Pair) -> bool {
+        let [count, estimate] = SIDES.map(|side| self.used(pair, side));
+        let whole = self.form == Form::Asked && count.numerator == count.denominator;
+        (whole || count.numerator < count.denominator) && estimate.numerator < estimate.denominator
+    }
+
+    /// Whether a share of the factor is more than all of what k - 2r + 1 in place of k - 2r would promise.
+    pub fn goes_beyond_next(self, used: Used) -> bool {
+        let above = u128::from(self.above());
+        used.numerator * (above + 1) > used.denominator * above
+    }
+
+    /// What is promised, for printing.
+    pub fn promise(self) -> f64 {
+        f64::from(self.bound.qn) * self.k as f64 / (f64::from(self.bound.qd) * self.above() as f64)
     }
 }
 
-/// What demand 3 promises, for printing.
+/// What demand 3 promises.
 pub fn promise(bound: Bound, k: u32) -> f64 {
-    f64::from(bound.qn) * f64::from(k) / (f64::from(bound.qd) * f64::from(k - 2))
+    Rule::of_one_range(bound, k).promise()
+}
+
+/// The rule for the largest k for which it speaks of the ranges, if that is above 2r. It asks for most, since the
+/// factor falls as k grows.
+pub fn strictest(form: Form, bound: Bound, ranges: u64, pair: Pair) -> Option<Rule> {
+    let reached = match form {
+        Form::Asked => pair.count.max(pair.estimate.saturating_sub(ranges)),
+        Form::Stronger => pair.count.max(pair.estimate).saturating_sub(1),
+    };
+    let k = reached / u64::from(bound.theta);
+    (k > 2 * ranges).then_some(Rule { form, bound, ranges, k })
+}
+
+/// A rule that some ranges break.
+pub fn broken_rule(bound: Bound, ranges: u64, pair: Pair) -> Option<Rule> {
+    let rules = FORMS.into_iter().filter_map(|form| strictest(form, bound, ranges, pair));
+    rules.into_iter().find(|rule| !rule.holds(pair))
 }

@@ -1,4 +1,4 @@
-//! A reference for document 01 with requests (i), (iv) and (v) of document 02, written from their
+//! A reference for document 01 with requests (i), (ii), (iv) and (v) of document 02, written from their
 //! text and meant to be read beside it, and the comparison of another program with it.
 
 // The sections of document 01.
@@ -12,10 +12,11 @@ pub mod list;
 pub mod sheet;
 pub mod words;
 
-// Request (i) of document 02.
+// Requests (i) and (ii) of document 02.
+pub mod search;
 pub mod worksheet;
 
-// Demand 3.
+// Demand 3, and the same rule for a search.
 pub mod demand;
 
 // Those who answer the calls.

@@ -55,6 +55,7 @@ extern "C" {
         lent: *mut u64,
         lent_length: usize,
     ) -> QhAnswered;
+    fn qh_estimate_search(words: *const u32, length: usize, ranges: *const u32, ranges_length: usize) -> QhEstimate;
     fn qh_sheet(input: *const u8, length: usize, lent: *mut u8) -> usize;
 }
 
@@ -106,6 +107,10 @@ impl Program for Linked<'_> {
         let (ranges, ranges_length) = (worksheet.as_ptr(), worksheet.len());
         let (answers, places) = (lent.as_mut_ptr(), lent.len());
         unsafe { qh_answer_worksheet(list, length, sums, sums_length, ranges, ranges_length, answers, places) }
+    }
+
+    fn estimate_search(&self, words: &[u32], ranges: &[u32]) -> QhEstimate {
+        unsafe { qh_estimate_search(words.as_ptr(), words.len(), ranges.as_ptr(), ranges.len()) }
     }
 
     fn sheet(&self, input: &[u8], lent: &mut Sheet) -> usize {

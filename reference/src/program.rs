@@ -6,6 +6,7 @@ use crate::coding;
 use crate::estimate::estimate;
 use crate::fits::Sort;
 use crate::list::Bound;
+use crate::search::estimate_search;
 use crate::sheet::printed;
 use crate::words::find;
 use crate::worksheet::{answer_worksheet, fill_totals};
@@ -89,6 +90,7 @@ pub trait Program {
     fn find(&self, words: &[u32], entry: u32) -> QhFound;
     fn fill_totals(&self, words: &[u32], lent: &mut [u64]) -> QhFilled;
     fn answer_worksheet(&self, words: &[u32], totals: &[u64], worksheet: &[u32], lent: &mut [u64]) -> QhAnswered;
+    fn estimate_search(&self, words: &[u32], ranges: &[u32]) -> QhEstimate;
     fn sheet(&self, input: &[u8], lent: &mut Sheet) -> usize;
 
     /// The listing program run on an input. It prints the bytes of a sheet, and explains a refusal.
@@ -193,6 +195,10 @@ impl Program for Reference {
 
     fn answer_worksheet(&self, words: &[u32], totals: &[u64], worksheet: &[u32], lent: &mut [u64]) -> QhAnswered {
         answer_worksheet(words, totals, worksheet, lent).into()
+    }
+
+    fn estimate_search(&self, words: &[u32], ranges: &[u32]) -> QhEstimate {
+        estimate_search(words, ranges).into()
     }
 
     fn sheet(&self, input: &[u8], lent: &mut Sheet) -> usize {

@@ -17,9 +17,14 @@ pub fn fill_totals(words: &[u32], lent: &mut [u64]) -> Result<usize, u32> {
     lend(&totals, lent).ok_or(19)
 }
 
-/// The ranges of a worksheet, two words each; a word left over is in none.
-pub fn pairs(worksheet: &[u32]) -> impl Iterator<Item = (u32, u32)> + '_ {
-    worksheet.chunks_exact(2).map(|range| (range[0], range[1]))
+/// The ranges of a worksheet or a search, two words each; a word left over is in none.
+pub fn pairs(ranges: &[u32]) -> impl Iterator<Item = (u32, u32)> + '_ {
+    ranges.chunks_exact(2).map(|range| (range[0], range[1]))
+}
+
+/// Whether each of them lies within the list.
+pub fn all_lie_within(histogram: &Histogram, ranges: &[u32]) -> bool {
+    pairs(ranges).all(|(x, y)| lies_within(histogram, x, y))
 }
 
 /// Answers a worksheet into a lent list and says how many answers there are; the refusals of reading, then 19 to 21.
@@ -33,7 +38,7 @@ pub fn answer_worksheet(words: &[u32], totals: &[u64], worksheet: &[u32], lent: 
     if !totals.starts_with(&expected) {
         return Err(20);
     }
-    if worksheet.len() % 2 == 1 || !pairs(worksheet).all(|(x, y)| lies_within(&histogram, x, y)) {
+    if worksheet.len() % 2 == 1 || !all_lie_within(&histogram, worksheet) {
         return Err(21);
     }
     for (place, (x, y)) in lent.iter_mut().zip(pairs(worksheet)) {

@@ -3,7 +3,7 @@
 use reference::build::{build, histogram, Way, WAYS};
 use reference::check::{check, Verdict};
 use reference::coding::*;
-use reference::demand::Pair;
+use reference::demand::{Pair, Rule};
 use reference::estimate::estimate;
 use reference::fits::Sort;
 use reference::list::{Bound, COUNT_LIMIT, MOST_THETA};
@@ -348,9 +348,10 @@ fn the_papers_corollary_is_too_strong_here() {
     expect("check", Ok(Verdict::Accepted), check(&[131, 131], &words));
     expect("131 is estimated", Ok(66), estimate(&words, 0, 1));
     let pair = Pair { count: 131, estimate: 66 };
-    expect("above k theta", true, pair.applies(bound, 12));
+    let rule = Rule::of_one_range(bound, 12);
+    expect("above k theta", true, rule.applies(pair));
     expect("beyond 1.4", true, 10 * pair.count > 14 * pair.estimate);
-    expect("within q k/(k - 2)", true, pair.holds(bound, 12));
+    expect("within q k/(k - 2)", true, rule.holds(pair));
 }
 
 #[test]

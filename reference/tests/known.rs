@@ -1,7 +1,7 @@
 //! The lists that come nearest to demand 3's bound.
 
 use reference::check::{check, Verdict};
-use reference::demand::{Pair, KS, SIDES};
+use reference::demand::{Pair, Rule, KS, SIDES};
 use reference::estimate::estimate;
 use reference::generate::directed::known;
 use reference::list::count;
@@ -30,9 +30,10 @@ fn known_lists_are_accepted_and_use_up_nearly_all() {
         };
         assert_eq!((pair.count, pair.estimate), (true_count, answer));
         let bound = directed.histogram.head.bound;
-        assert!(pair.applies(bound, 3));
-        assert!(KS.iter().all(|&k| !pair.applies(bound, k) || pair.holds(bound, k)));
-        let used = SIDES.map(|side| pair.used(bound, 3, side).value());
+        let rule = |k: u32| Rule::of_one_range(bound, k);
+        assert!(rule(3).applies(pair));
+        assert!(KS.iter().all(|&k| !rule(k).applies(pair) || rule(k).holds(pair)));
+        let used = SIDES.map(|side| rule(3).used(pair, side).value());
         assert!(used[0].max(used[1]) > share, "{used:?}");
     }
 }

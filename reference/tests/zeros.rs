@@ -3,7 +3,7 @@
 use reference::build::{grow, histogram, Way, WAYS};
 use reference::check::{check, Verdict};
 use reference::coding::*;
-use reference::demand::{Pair, KS};
+use reference::demand::{Pair, Rule, KS};
 use reference::estimate::estimate;
 use reference::fits::Sort;
 use reference::list::{Bound, MOST_ENTRIES};
@@ -143,5 +143,5 @@ fn refusal_12_names_a_class_without_a_width_and_code_0_beside_a_class() {
 #[test]
 fn the_accuracy_rule_says_nothing_of_a_sum_of_0() {
     let zeros = Pair { count: 0, estimate: 1 };
-    assert!(KS.iter().all(|&k| !zeros.applies(Bound::new(1, 5, 4), k)));
+    assert!(KS.iter().all(|&k| !Rule::of_one_range(Bound::new(1, 5, 4), k).applies(zeros)));
 }

@@ -1,5 +1,7 @@
 -- The worked examples hold of the definitions, by computation. Assumes nothing.
 use mathlib.Core.Path.{refl}
+use mathlib.Core.Logic.{⊎-elim}
+use native.Mathlib.Omega.{arith}
 use Rattle.laws.specs.Each.{each, some}
 use Rattle.laws.specs.Refusal.{refusal}
 use Rattle.laws.specs.Search.{first, largest, root}
@@ -13,8 +15,32 @@ use Rattle.fit.specs.Accepted.{mismatch, accepted}
 use Rattle.estimate_rules.specs.Fraction.{sumOf, rounded}
 use Rattle.estimate_rules.specs.Exact.{piece, bucketPiece, exact}
 use Rattle.estimate_rules.specs.Asking.{rangeFault, raised, estimate, estimateReply}
-use Rattle.accuracy.specs.Worked.{Worked}
+use Rattle.estimate_rules.specs.Search.{countFault, orderFault, searchReply}
+use Rattle.accuracy.specs.Worked.{Worked, WorkedTwo}
 
 pub worked : Worked
 unfolding each some refusal first largest root classNumber middle totalNumber validFields decode headGood headFault largeQFault lengthFault wordsBroken wordFault startFault widthsBroken widthFault classBroken totalBroken codesBroken codeFault rangesFit bucketletFits entriesFault sumFault mismatch accepted sumOf rounded piece bucketPiece exact rangeFault raised estimate estimateReply
 worked = record { all-accepted = refl; counts = refl; answers = refl; two-cuts = refl; below-theta = refl; needs-q = refl; zeros-accepted = refl; zeros-answered = refl }
+
+pub worked-two : WorkedTwo
+unfolding each some refusal first largest root classNumber middle totalNumber validFields decode headGood headFault largeQFault lengthFault wordsBroken wordFault startFault widthsBroken widthFault classBroken totalBroken codesBroken codeFault rangesFit bucketletFits entriesFault sumFault mismatch accepted sumOf rounded piece bucketPiece exact rangeFault raised estimate estimateReply countFault orderFault searchReply
+worked-two =
+    record {
+      all-accepted = refl;
+      counts = refl;
+      answers = refl;
+      searched = refl;
+      four-cuts = refl;
+      below-theta = refl;
+      needs-q = refl;
+      rules = (
+        λ l r. record { count-within = omega arith; answer-within = omega arith },
+        λ l r. absurd (⊎-elim (λ h. omega arith) (λ h. omega arith) r),
+        λ l r. record { count-within = omega arith; answer-within = omega arith },
+      );
+      shorter-rules = (
+        λ l r. record { count-below = omega arith; answer-below = omega arith },
+        λ l r. absurd (⊎-elim (λ h. omega arith) (λ h. omega arith) r),
+        λ l r. record { count-below = omega arith; answer-below = omega arith },
+      );
+    }

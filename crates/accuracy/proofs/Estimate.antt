@@ -1,5 +1,5 @@
--- The estimate of a range by an accepted histogram splits (Split.antt) if each bucketlet's piece does, with what is excused at either end:
--- each end of the range cuts at most one bucketlet. Assumes nothing.
+-- What is shown of each bucketlet's piece (Pieces.antt), with what is excused at either end, is shown of the estimate of a range by an accepted
+-- histogram: each end of the range cuts at most one bucketlet. Assumes nothing.
 use mathlib.Core.Path.{_≡_, refl, ap, subst, sym, _∙_}
 use mathlib.Core.Bool.{true}
 use mathlib.Core.List.{List}
@@ -9,18 +9,19 @@ use native.Mathlib.Omega.{arith}
 use Rattle.laws.specs.Sums.{partSum}
 use Rattle.counts_rules.specs.Total.{totalNumber}
 use Rattle.words_rules.specs.Words.{entries, theta, qn, qd, buckets, start, end, span}
-use Rattle.words_rules.specs.Decoded.{bucketAt, bucketletStart, bucketletEnd, widthAt, numberAt}
+use Rattle.words_rules.specs.Decoded.{bucketAt, bucketletStart, bucketletEnd, widthAt}
 use Rattle.words_rules.proofs.Proved.{histogram}
 use Rattle.words_rules.proofs.EntryLaws.{bucketlet-end}
 use Rattle.fit.specs.Accepted.{qualityOf}
+use Rattle.estimate_rules.specs.declared.Fraction.{Fraction}
 use Rattle.estimate_rules.specs.Fraction.{number}
 use Rattle.estimate_rules.specs.Exact.{inside, bucketletPiece, exact}
 use Rattle.estimate_rules.proofs.ExactLaws.{inside-says}
 use Rattle.estimate_rules.proofs.CutLaws.{cuts-most}
 use Rattle.estimate_rules.proofs.SpanLaws.{exact-holds}
-use Rattle.accuracy.proofs.Split.{Split, split-near, split-more, split-as}
-use Rattle.accuracy.proofs.Ranges.{countIn, count-some, count-all, Spanned, spanned-joined}
-use Rattle.accuracy.proofs.Pieces.{bucketlet-spanned}
+use Rattle.accuracy.proofs.Ranges.{countIn, count-some, count-all, Adding, Spanned, spanned-joined}
+use Rattle.accuracy.proofs.Split.{Split, split-near, split-as, split-adds, Capped, capped-whole, capped-adds}
+use Rattle.accuracy.proofs.Pieces.{bucketlet-spanned, bucketlet-capped}
 use Rattle.fit.proofs.AcceptedLaws.{Fitting}
 
 module _ (fs ws : List ℕ) (ok : Fitting fs ws) (x y : ℕ) (ordered : x ≤ y) where
@@ -43,23 +44,42 @@ module _ (fs ws : List ℕ) (ok : Fitting fs ws) (x y : ℕ) (ordered : x ≤ y)
       (countIn fs x y a e) n (total-count a e (says .0) (says .1) (histogram .tiles ws (ok .readable) .not-empty b h)) refl
 
   -- what is shown of bucketlet j of bucket b
-  abbrev pub BucketletSplit : ℕ → ℕ → ℕ → ℕ → Type 0
-  BucketletSplit u v b j =
-      Spanned (qn ws) (qd ws) (theta ws) u v fs x y (bucketletStart (bucketAt ws b) j) (bucketletEnd (bucketAt ws b) j) (bucketletPiece x y (bucketAt ws b) j)
+  abbrev pub OfBucketlet : (ℕ → ℕ → Fraction → Type 0) → ℕ → ℕ → ℕ → ℕ → Type 0
+  OfBucketlet P u v b j =
+      Spanned P u v fs x y (bucketletStart (bucketAt ws b) j) (bucketletEnd (bucketAt ws b) j) (bucketletPiece x y (bucketAt ws b) j)
 
-  pub range-split : (u v : ℕ) → ((b j : ℕ) → b < buckets ws → j < 8 → BucketletSplit u v b j) → y ≤ entries ws
-      → Split (qn ws) (qd ws) (theta ws) (u + v) (partSum x (y - x) fs) (exact ws x y)
-  range-split u v bucketlets l =
+  -- it is shown of the range, if it can be added up and is shown of each bucketlet, and of each total with nothing excused
+  range-holds : (P : ℕ → ℕ → Fraction → Type 0) → Adding P → (u v : ℕ) → ((b j : ℕ) → b < buckets ws → j < 8 → OfBucketlet P u v b j)
+      → ((b : ℕ) → b < buckets ws → inside x y (start ws b) (end ws b) ≡ true → P 0 (countIn fs x y (start ws b) (end ws b)) (number (totalNumber (bucketAt ws b .total))))
+      → y ≤ entries ws → P (u + v) (partSum x (y - x) fs) (exact ws x y)
+  range-holds P adds u v bucketlets totals l =
       let d = entries ws in
-      let all = exact-holds ws (ok .readable) x y (Spanned (qn ws) (qd ws) (theta ws) u v fs x y) (spanned-joined (qn ws) (qd ws) (theta ws) u v fs x y) bucketlets
-      (λ b h t. split-more (total-split b h t) _ (omega arith)) in
-      split-as (split-more all (u + v) (omega (arith, mul-le-mul-left u (cuts-most x 0 d), mul-le-mul-left v (cuts-most y 0 d))))
-      (partSum x (y - x) fs) (exact ws x y) (sym (count-all fs x y 0 d ordered (omega arith) l)) refl
+      let all = exact-holds ws (ok .readable) x y (Spanned P u v fs x y) (spanned-joined P u v fs x y adds) bucketlets
+      (λ b h t. adds .more 0 _ _ _ (omega arith) (totals b h t)) in
+      subst (λ (n : ℕ). P (u + v) n (exact ws x y)) (count-all fs x y 0 d ordered (omega arith) l)
+      (adds .more _ (u + v) _ (exact ws x y) (omega (arith, mul-le-mul-left u (cuts-most x 0 d), mul-le-mul-left v (cuts-most y 0 d))) all)
 
-  -- it holds of each with one excused at either end
-  pub bucketlet-split : (b j : ℕ) → b < buckets ws → j < 8 → BucketletSplit 1 1 b j
-  bucketlet-split b j h l =
+  pub range-split : (u v : ℕ) → ((b j : ℕ) → b < buckets ws → j < 8 → OfBucketlet (Split (qn ws) (qd ws) (theta ws)) u v b j) → y ≤ entries ws
+      → Split (qn ws) (qd ws) (theta ws) (u + v) (partSum x (y - x) fs) (exact ws x y)
+  range-split u v bucketlets l = range-holds (Split (qn ws) (qd ws) (theta ws)) (split-adds (qn ws) (qd ws) (theta ws)) u v bucketlets total-split l
+
+  -- a bucketlet by its start and its width
+  pub by-width : (P : ℕ → ℕ → Fraction → Type 0) (u v b j : ℕ)
+      → (let r = bucketAt ws b in Spanned P u v fs x y (bucketletStart r j) (bucketletStart r j + widthAt r j) (bucketletPiece x y r j)) → OfBucketlet P u v b j
+  by-width P u v b j s =
       let r = bucketAt ws b in
-      let a = bucketletStart r j in
-      subst (λ (e : ℕ). Spanned (qn ws) (qd ws) (theta ws) 1 1 fs x y a e (bucketletPiece x y r j)) (sym (bucketlet-end r j))
-      (bucketlet-spanned (qualityOf ws) fs x y a (widthAt r j) (numberAt r j) ordered (ok .bucketlets b j h l))
+      subst (λ (e : ℕ). Spanned P u v fs x y (bucketletStart r j) e (bucketletPiece x y r j)) (sym (bucketlet-end r j)) s
+
+  -- with one excused at either end
+
+  pub range-split-two : y ≤ entries ws → Split (qn ws) (qd ws) (theta ws) 2 (partSum x (y - x) fs) (exact ws x y)
+  range-split-two =
+      range-split 1 1
+      (λ b j h l. by-width (Split (qn ws) (qd ws) (theta ws)) 1 1 b j (bucketlet-spanned (qualityOf ws) fs x y _ _ _ ordered (ok .bucketlets b j h l)))
+
+  pub range-capped : y ≤ entries ws → Capped (qn ws) (qd ws) (theta ws) 2 (partSum x (y - x) fs) (exact ws x y)
+  range-capped =
+      let least = histogram .limits ws (ok .readable) .least-theta in
+      range-holds (Capped (qn ws) (qd ws) (theta ws)) (capped-adds (qn ws) (qd ws) (theta ws)) 1 1
+      (λ b j h l. by-width (Capped (qn ws) (qd ws) (theta ws)) 1 1 b j (bucketlet-capped (qualityOf ws) fs x y _ _ _ ordered (ok .bucketlets b j h l) least))
+      (λ b h t. capped-whole (qn ws) (qd ws) (theta ws) _ _ refl (total-split b h t))

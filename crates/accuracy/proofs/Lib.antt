@@ -1,10 +1,11 @@
 pub mod Computed
 pub mod Parts
-pub mod Split
 pub mod Ranges
+pub mod Split
 pub mod Pieces
 pub mod Estimate
 pub mod Uncut
 pub mod NoneLeft
 pub mod OneBucketlet
+pub mod Several
 pub mod Proved

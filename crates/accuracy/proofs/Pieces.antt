@@ -20,7 +20,7 @@ use Rattle.estimate_rules.specs.Exact.{inside, overlap, piece}
 use Rattle.estimate_rules.proofs.FractionLaws.{rounded-most}
 use Rattle.estimate_rules.proofs.ExactLaws.{inside-says, piece-none, piece-whole, piece-cut}
 use Rattle.estimate_rules.proofs.CutLaws.{cuts, cut-some}
-use Rattle.accuracy.proofs.Split.{Split, split-near, split-small, split-nothing, split-more, split-as}
+use Rattle.accuracy.proofs.Split.{Split, split-near, split-small, split-nothing, split-more, split-as, Capped, capped-whole, capped-near, capped-small, capped-adds}
 use Rattle.accuracy.proofs.Ranges.{countIn, count-none, count-some, Spanned}
 
 -- what fitting says of a range inside a bucketlet
@@ -102,13 +102,32 @@ module _ (q : Quality) (fs : List ℕ) (x y a w s : ℕ) (ordered : x ≤ y) (go
       (eq-zero-or-pos (met x y a w))
 
   -- what a bucketlet gives splits, with an excuse if it is cut
-  pub bucketlet-spanned : Spanned (q .qn) (q .qd) (q .theta) 1 1 fs x y a (a + w) (piece x y a w s)
+  pub bucketlet-spanned : Spanned (Split (q .qn) (q .qd) (q .theta)) 1 1 fs x y a (a + w) (piece x y a w s)
   unfolding Uncut Cut
   bucketlet-spanned =
       ⊎-elim
       (λ (u : Uncut). split-more (u .0) _ (omega arith))
       (λ (c : Cut). split-more (cut-split (c .0) (c .1)) _ (omega (arith, cut-some x y a (a + w) (c .0) (c .1))))
       uncut-or-cut
+
+  -- and rounds up, with a theta if it is cut
+  pub bucketlet-capped : 1 ≤ q .theta → Spanned (Capped (q .qn) (q .qd) (q .theta)) 1 1 fs x y a (a + w) (piece x y a w s)
+  unfolding Uncut Cut
+  bucketlet-capped least =
+      ⊎-elim
+      (λ (u : Uncut). capped-adds (q .qn) (q .qd) (q .theta) .more 0 _ here (piece x y a w s) (omega arith) (capped-whole (q .qn) (q .qd) (q .theta) here (piece x y a w s) (u .1) (u .0)))
+      (λ (c : Cut).
+      subst (Capped (q .qn) (q .qd) (q .theta) (1 * cuts x a (a + w) + 1 * cuts y a (a + w)) here) (sym (piece-cut x y a w s (c .0) (c .1)))
+      (capped-adds (q .qn) (q .qd) (q .theta) .more 1 _ here (quotient (met x y a w * s) w) (omega (arith, cut-some x y a (a + w) (c .0) (c .1))) (cut-capped c)))
+      uncut-or-cut
+    where
+      cut-capped : Cut → Capped (q .qn) (q .qd) (q .theta) 1 here (quotient (met x y a w * s) w)
+      cut-capped c =
+          let some = c .0 in
+          ⊎-elim
+          (λ (h : Small q here (met x y a w * s) w). capped-small (q .qn) (q .qd) (q .theta) here (quotient (met x y a w * s) w) (omega (arith, h .estimate)))
+          (λ (h : Near q here (met x y a w * s) w). capped-near (q .qn) (q .qd) (q .theta) here (quotient (met x y a w * s) w) least (cut-near q here s w (omega arith) (met x y a w) h))
+          (fits-says q here (met x y a w * s) w (cut-range (c .0)))
 
   -- without one if no end of the range cuts it
   pub bucketlet-whole : cuts x a (a + w) + cuts y a (a + w) ≡ 0 → Split (q .qn) (q .qd) (q .theta) 0 here (piece x y a w s) × (piece x y a w s .top ≡ 0)

@@ -2,8 +2,8 @@
 use mathlib.Core.Path.{_≡_, ap, subst, sym}
 use mathlib.Core.List.{List}
 use mathlib.Core.Logic.{_⊎_, inl, inr, ⊎-elim}
-use Prim.Native.Nat.{ℕ, _-_, _*_, _≤_, _<_}
-use native.Mathlib.Nat.{mul-le-mul, mul-le-mul-right}
+use Prim.Native.Nat.{ℕ, _+_, _-_, _*_, _≤_, _<_}
+use native.Mathlib.Nat.{mul-le-mul, mul-le-mul-left, mul-le-mul-right, le-of-mul-le-mul-right}
 use native.Mathlib.Omega.{arith}
 use lib.ListN.{length}
 use Rattle.laws.specs.Refusal.{refusal}
@@ -16,22 +16,20 @@ use Rattle.list_rules.specs.Quality.{quality, inputSentences}
 use Rattle.list_rules.proofs.SoundLaws.{sound-of}
 use Rattle.build_rules.proofs.ReadBack.{entries-are, theta-is, qn-is, qd-is}
 use Rattle.build_rules.proofs.Proved.{building}
-use Rattle.estimate_rules.specs.Fraction.{rounded}
+use Rattle.estimate_rules.specs.Fraction.{rounded, numerator}
 use Rattle.estimate_rules.specs.Exact.{exact}
 use Rattle.estimate_rules.specs.Asking.{estimate}
+use Rattle.estimate_rules.proofs.FractionLaws.{rounded-reaches, rounded-most}
 use Rattle.estimate_rules.proofs.AskingLaws.{raised-or, reply-is}
-use Rattle.accuracy.specs.Claims.{count, answer, Within, Accurate, Accuracy}
+use Rattle.accuracy.specs.Claims.{count, answer, Within, SeveralRangesShorter, Accurate, Accuracy}
+use Rattle.accuracy.proofs.Parts.{Parts}
 use Rattle.accuracy.proofs.Split.{Split, split-within}
 use Rattle.fit.proofs.AcceptedLaws.{Fitting, fitting}
-use Rattle.accuracy.proofs.Estimate.{range-split, bucketlet-split}
+use Rattle.accuracy.proofs.Estimate.{range-split-two, range-capped}
 use Rattle.accuracy.proofs.OneBucketlet.{ends-in-list, one-split}
 use Rattle.accuracy.proofs.Uncut.{uncut-within}
 use Rattle.accuracy.proofs.NoneLeft.{none-left}
-
--- one of two facts, each as another follows from it
-either : {A B C D : Type 0} → A ⊎ B → (A → C) → (B → D) → C ⊎ D
-either (inl a) f g = inl (f a)
-either (inr b) f g = inr (g b)
+use Rattle.accuracy.proofs.Several.{either, several-shorter, follows}
 
 -- an answer n of which the sum rounded up is m: they are the same, or m is 0 and n is 1
 abbrev Answered : ℕ → ℕ → Type 0
@@ -42,14 +40,14 @@ sum-above : (t f m n : ℕ) → 1 ≤ t → Answered m n → (t < f) ⊎ (t < n)
 sum-above t f m n h a r = ⊎-elim (λ e. either r (λ g. g) (λ g. omega arith)) (λ e. ⊎-elim inl (λ g. absurd (omega (arith, e .1))) r) a
 
 -- and what is within a factor for 0 is so for 1
-answer-within : (d e f m n : ℕ) → Answered m n → Within d e f m → Within d e f n
+answer-within : (d e f m n : ℕ) → Answered m n → Within d e 1 f m → Within d e 1 f n
 answer-within d e f m n a w =
     ⊎-elim
-    (λ (s : n ≡ m). subst (Within d e f) (sym s) w)
-    (λ (s : (m ≡ 0) × (n ≡ 1)). subst (Within d e f) (sym (s .1)) (one (subst (Within d e f) (s .0) w)))
+    (λ (s : n ≡ m). subst (Within d e 1 f) (sym s) w)
+    (λ (s : (m ≡ 0) × (n ≡ 1)). subst (Within d e 1 f) (sym (s .1)) (one (subst (Within d e 1 f) (s .0) w)))
     a
   where
-    one : Within d e f 0 → Within d e f 1
+    one : Within d e 1 f 0 → Within d e 1 f 1
     one w = record { count-within = omega (arith, w .count-within); answer-within = w .answer-within }
 
 -- within q, without a rest, but for a count of 0
@@ -76,22 +74,54 @@ module _ (fs ws : List ℕ) (ok : Fitting fs ws) where
 
   -- the lemma, for the histogram's own theta and q
   within : (m x y k : ℕ) → x ≤ y → y ≤ entries ws → Split (qn ws) (qd ws) (theta ws) m (count fs x y) (exact ws x y) → m < k
-      → (k * theta ws < count fs x y) ⊎ (k * theta ws < answer ws x y) → Within (qn ws * k) (qd ws * (k - m)) (count fs x y) (answer ws x y)
+      → (k * theta ws < count fs x y) ⊎ (k * theta ws < answer ws x y) → Within (qn ws * k) (qd ws * (k - m)) 1 (count fs x y) (answer ws x y)
   within m x y k h l s g r =
       let limits = histogram .limits ws (ok .readable) in
       let a = answer-is x y h l in
       answer-within _ _ _ _ _ a
       (split-within s k (limits .least-qd) (omega (arith, limits .least-q)) g (sum-above (k * theta ws) _ _ _ (some k (omega arith)) a r))
 
+  -- a range's count and answer are within q but for 2 theta
+  two-theta : (x y : ℕ) → x ≤ y → y ≤ entries ws → Parts (qn ws) (qd ws) (theta ws) 2 (count fs x y) (answer ws x y)
+  two-theta x y h l =
+      let e = exact ws x y in
+      let s = range-split-two fs ws ok x y h l in
+      let c = range-capped fs ws ok x y h l in
+      let a = answer-is x y h l in
+      record {
+        f-over =
+            le-of-mul-le-mul-right {k = e .bottom}
+            (omega (arith, s .parts .f-over, mul-le-mul-left (qn ws) (reached (numerator e) (e .bottom) a (rounded-reaches e (s .positive))))) (s .positive);
+        v-over = capped (qd ws) (theta ws) (qn ws * count fs x y) (c .cap) (histogram .limits ws (ok .readable) .least-theta) a (rounded-most e (c .cap) (s .positive) (c .reached)) (c .under);
+      }
+    where
+      reached : {m n : ℕ} (v b : ℕ) → Answered m n → v ≤ m * b → v ≤ n * b
+      reached v b a r =
+          ⊎-elim (λ p. omega (arith, r, ap (λ (k : ℕ). k * b) p)) (λ p. omega (arith, r, ap (λ (k : ℕ). k * b) (p .0))) a
+
+      capped : {m n : ℕ} (qd t f c : ℕ) → 1 ≤ t → Answered m n → m ≤ c → qd * c ≤ f + qd * (2 * t) → qd * n ≤ f + qd * (2 * t)
+      capped qd t f c h a r u =
+          ⊎-elim
+          (λ p. omega (arith, u, mul-le-mul-left qd r, ap (λ (k : ℕ). qd * k) p))
+          (λ p. omega (arith, ap (λ (k : ℕ). qd * k) (p .1), mul-le-mul-left qd h))
+          a
+
+  shorter : SeveralRangesShorter fs ws (entries ws) (theta ws) (qn ws) (qd ws)
+  shorter ranges k =
+      let limits = histogram .limits ws (ok .readable) in
+      several-shorter fs ws (entries ws) (theta ws) (qn ws) (qd ws) (limits .least-qd) (omega (arith, limits .least-q)) two-theta ranges k
+
   pub accurate : Accurate fs ws (entries ws) (theta ws) (qn ws) (qd ws)
   accurate =
+      let rules = follows fs ws (entries ws) (theta ws) (qn ws) (qd ws) in
       record {
         answered = λ x y h l. ap (λ (r : Reply). r .refusal) (reply-is ws x y (ok .readable) h l);
         none-left = λ x y h l z. none-left fs ws ok x y h l z;
-        accurate = λ x y k h l g r.
-            let s = range-split fs ws ok x y h 1 1 (bucketlet-split fs ws ok x y h) l in
-            let w = within 2 x y k h l s g (either r (λ f. omega arith) (λ f. omega arith)) in
-            record { count-within = omega (arith, w .count-within); answer-within = omega (arith, w .answer-within) };
+        but-for-2-theta = λ x y h l. (two-theta x y h l .f-over, two-theta x y h l .v-over);
+        accurate = rules .one (rules .several shorter);
+        shorter = rules .one-shorter shorter;
+        several = rules .several shorter;
+        several-shorter = shorter;
         one-bucketlet = λ b j x y h l from g to r.
             let inside = ends-in-list fs ws ok x y g b j h l from to in
             let theta-some = histogram .limits ws (ok .readable) .least-theta in
@@ -103,7 +133,7 @@ module _ (fs ws : List ℕ) (ok : Fitting fs ws) where
       }
 
 pub accuracy : Accuracy
-accuracy = record { of-accepted = λ fs ws t. accurate fs ws (fitting fs ws t); of-built = built }
+accuracy = record { follows = follows; of-accepted = λ fs ws t. accurate fs ws (fitting fs ws t); of-built = built }
   where
     built : (fs : List ℕ) (theta qn qd : ℕ) → refusal (inputSentences fs theta qn qd) ≡ 0 → Accurate fs (words (quality theta qn qd) fs) (length fs) theta qn qd
     built fs theta qn qd e =

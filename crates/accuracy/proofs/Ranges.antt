@@ -1,5 +1,5 @@
--- A range over spans that follow one another: its count is the sum of what it holds of each. So what splits on two spans (Split.antt) splits on
--- both together, with as many excused as the ends that cut. Assumes nothing.
+-- A range over spans that follow one another: its count is the sum of what it holds of each. So what is shown of two spans, and can be added up, is
+-- shown of both together, with as many cuts excused as there are ends that cut. Assumes nothing.
 use mathlib.Core.Path.{_≡_, ap, subst, sym, _∙_}
 use mathlib.Core.List.{List}
 use Prim.Native.Nat.{ℕ, _+_, _-_, _*_, _≤_, _<_, min, max}
@@ -12,7 +12,6 @@ use Rattle.estimate_rules.specs.Fraction.{nothing, plus}
 use Rattle.estimate_rules.specs.Exact.{overlap}
 use Rattle.estimate_rules.proofs.CutLaws.{cuts, cuts-join}
 use Rattle.estimate_rules.proofs.SpanLaws.{Joined}
-use Rattle.accuracy.proofs.Split.{Split, split-nothing, split-more, split-add}
 
 -- the place of the range that is nearest to t
 unfoldable pub nearest : ℕ → ℕ → ℕ → ℕ
@@ -75,21 +74,28 @@ count-all fs x y a e g h k =
     let to : nearest x y e ≡ y = omega arith in
     ap (λ (i : ℕ). partSum i (nearest x y e - i) fs) from ∙ ap (λ (j : ℕ). partSum x (j - x) fs) to
 
-module _ (pn pd theta u v : ℕ) (fs : List ℕ) (x y : ℕ) where
-  -- what is shown of a span from a to e and of the fraction that estimates what the range holds of it: u are excused where x cuts, v where y does
+-- what is shown of a number of excused cuts, a count, and the fraction that estimates it, and can be added up
+pub record Adding (P : ℕ → ℕ → Fraction → Type 0) : Type 0 where
+  pub none : P 0 0 nothing
+  pub more : (m n f : ℕ) (e : Fraction) → m ≤ n → P m f e → P n f e
+  pub add : (m n f g : ℕ) (d e : Fraction) → P m f d → P n g e → P (m + n) (f + g) (plus d e)
+
+module _ (P : ℕ → ℕ → Fraction → Type 0) (u v : ℕ) (fs : List ℕ) (x y : ℕ) where
+  -- it is shown of a span from a to e and of the fraction that estimates what the range holds of it: u are excused where x cuts, v where y does
   abbrev pub Spanned : ℕ → ℕ → Fraction → Type 0
-  Spanned a e s = Split pn pd theta (u * cuts x a e + v * cuts y a e) (countIn fs x y a e) s
+  Spanned a e s = P (u * cuts x a e + v * cuts y a e) (countIn fs x y a e) s
 
-  spanned-none : (a : ℕ) → Spanned a a nothing
-  spanned-none a =
-      subst (λ (n : ℕ). Split pn pd theta (u * cuts x a a + v * cuts y a a) n nothing) (sym (count-same fs x y a))
-      (split-more (split-nothing pn pd theta) (u * cuts x a a + v * cuts y a a) (omega arith))
+  pub spanned-joined : Adding P → Joined Spanned
+  spanned-joined adds = record { none = spanned-none; join = spanned-join }
+    where
+      spanned-none : (a : ℕ) → Spanned a a nothing
+      spanned-none a =
+          subst (λ (n : ℕ). P (u * cuts x a a + v * cuts y a a) n nothing) (sym (count-same fs x y a))
+          (adds .more 0 (u * cuts x a a + v * cuts y a a) 0 nothing (omega arith) (adds .none))
 
-  spanned-join : (a b e : ℕ) (s t : Fraction) → a ≤ b → b ≤ e → Spanned a b s → Spanned b e t → Spanned a e (plus s t)
-  spanned-join a b e s t h k p q =
-      subst (λ (n : ℕ). Split pn pd theta (u * cuts x a e + v * cuts y a e) n (plus s t)) (count-join fs x y a b e h k)
-      (split-more (split-add p q) (u * cuts x a e + v * cuts y a e)
-      (omega (arith, mul-le-mul-left u (cuts-join x a b e h k), mul-le-mul-left v (cuts-join y a b e h k))))
-
-  pub spanned-joined : Joined Spanned
-  spanned-joined = record { none = spanned-none; join = spanned-join }
+      spanned-join : (a b e : ℕ) (s t : Fraction) → a ≤ b → b ≤ e → Spanned a b s → Spanned b e t → Spanned a e (plus s t)
+      spanned-join a b e s t h k p q =
+          subst (λ (n : ℕ). P (u * cuts x a e + v * cuts y a e) n (plus s t)) (count-join fs x y a b e h k)
+          (adds .more _ (u * cuts x a e + v * cuts y a e) _ (plus s t)
+          (omega (arith, mul-le-mul-left u (cuts-join x a b e h k), mul-le-mul-left v (cuts-join y a b e h k)))
+          (adds .add _ _ _ _ s t p q))

@@ -1,15 +1,16 @@
--- A count and the fraction that estimates it, as the parts of the lemma (Parts.antt) over the fraction's bottom: such pairs add up, and
+-- A count and the fraction that estimates it, as the two numbers of the lemma (Parts.antt) over the fraction's bottom: such pairs add up, and
 -- rounding the fraction up costs less than one. Assumes nothing.
 use mathlib.Core.Path.{_≡_, refl, ap}
 use mathlib.Core.Logic.{_⊎_, inl, inr, ⊎-elim}
 use Prim.Native.Nat.{ℕ, zero, suc, _+_, _-_, _*_, _≤_, _<_}
-use native.Mathlib.Nat.{mul-le-mul-right, mul-pos, mul-lt-mul-of-pos-right, le-of-mul-le-mul-right, lt-of-mul-lt-mul-right}
+use native.Mathlib.Nat.{le-of-lt, mul-le-mul-left, mul-le-mul-right, mul-pos, mul-lt-mul-of-pos-right, le-of-mul-le-mul-right, lt-of-mul-lt-mul-right}
 use native.Mathlib.Omega.{arith}
 use Rattle.estimate_rules.specs.declared.Fraction.{Fraction}
 use Rattle.estimate_rules.specs.Fraction.{nothing, plus, rounded, numerator}
 use Rattle.estimate_rules.proofs.FractionLaws.{rounded-reaches, rounded-tight}
 use Rattle.accuracy.specs.Claims.{Within}
 use Rattle.accuracy.proofs.Parts.{Parts, Factor, factor, parts-more, parts-scale, parts-add}
+use Rattle.accuracy.proofs.Ranges.{Adding}
 
 pub record Split (pn pd theta m f : ℕ) (e : Fraction) : Type 0 where
   pub positive : 0 < e .bottom
@@ -20,39 +21,14 @@ module _ (pn pd theta : ℕ) where
   pub split-near : (f : ℕ) (e : Fraction) → 0 < e .bottom → pd * (f * e .bottom) ≤ pn * numerator e → pd * numerator e ≤ pn * (f * e .bottom)
       → Split pn pd theta 0 f e
   split-near f e p h k =
-      record {
-        positive = p;
-        parts = record {
-          f-near = f * e .bottom;
-          f-small = 0;
-          v-near = numerator e;
-          v-small = 0;
-          f-is = omega arith;
-          v-is = omega arith;
-          f-over = h;
-          v-over = k;
-          f-excused = omega arith;
-          v-excused = omega arith;
-        };
-      }
+      record { positive = p; parts = record { f-over = omega (arith, h); v-over = omega (arith, k) } }
 
   -- both at most theta
   pub split-small : (f : ℕ) (e : Fraction) → 0 < e .bottom → f ≤ theta → numerator e ≤ theta * e .bottom → Split pn pd theta 1 f e
   split-small f e p h k =
       record {
         positive = p;
-        parts = record {
-          f-near = 0;
-          f-small = f * e .bottom;
-          v-near = 0;
-          v-small = numerator e;
-          f-is = omega arith;
-          v-is = omega arith;
-          f-over = omega arith;
-          v-over = omega arith;
-          f-excused = omega (arith, mul-le-mul-right (e .bottom) h);
-          v-excused = omega (arith, k);
-        };
+        parts = record { f-over = omega (arith, mul-le-mul-left pd (mul-le-mul-right (e .bottom) h)); v-over = omega (arith, mul-le-mul-left pd k) };
       }
 
   pub split-nothing : Split pn pd theta 0 0 nothing
@@ -67,7 +43,7 @@ module _ {pn pd theta m f : ℕ} {e : Fraction} (s : Split pn pd theta m f e) wh
   split-as g d p q = rw (p, q) s
 
   -- the lemma, for the fraction rounded up
-  pub split-within : (k : ℕ) → 0 < pd → pd ≤ pn → m < k → (k * theta < f) ⊎ (k * theta < rounded e) → Within (pn * k) (pd * (k - m)) f (rounded e)
+  pub split-within : (k : ℕ) → 0 < pd → pd ≤ pn → m < k → (k * theta < f) ⊎ (k * theta < rounded e) → Within (pn * k) (pd * (k - m)) 1 f (rounded e)
   split-within k p h l r =
       record {
         count-within = le-of-mul-le-mul-right {k = e .bottom} (omega (arith, w .f-within, mul-le-mul-right (pn * k) up)) (s .positive);
@@ -80,15 +56,15 @@ module _ {pn pd theta m f : ℕ} {e : Fraction} (s : Split pn pd theta m f e) wh
       down : rounded e * e .bottom < numerator e + e .bottom
       down = rounded-tight e (s .positive)
 
-      reached : (k * (theta * e .bottom) ≤ f * e .bottom) ⊎ (k * (theta * e .bottom) ≤ numerator e)
+      reached : (k * (theta * e .bottom) + 0 ≤ f * e .bottom) ⊎ (k * (theta * e .bottom) + 0 ≤ numerator e)
       reached =
           ⊎-elim
           (λ (g : k * theta < f). inl (omega (arith, mul-le-mul-right (e .bottom) g)))
           (λ (g : k * theta < rounded e). inr (omega (arith, mul-le-mul-right (e .bottom) g, down)))
           r
 
-      w : Factor (pn * k) (pd * (k - m)) (f * e .bottom) (numerator e)
-      w = factor (s .parts) k h (omega arith) reached
+      w : Factor (pn * k) (pd * (k - m)) (pd * m * 0) (f * e .bottom) (numerator e)
+      w = factor (s .parts) k 0 h (omega arith) reached
 
       -- a count above 0 where the answer is 0
       counted : (k * theta < f) ⊎ (k * theta < rounded e) → rounded e ≡ 0 → 0 < f
@@ -102,7 +78,7 @@ module _ {pn pd theta m f : ℕ} {e : Fraction} (s : Split pn pd theta m f e) wh
           let one : suc n - 1 ≡ n = omega arith in
           rw one (lt-of-mul-lt-mul-right (e .bottom) {m = pd * (k - m) * n} (omega (arith, w .v-within, mul-lt-mul-of-pos-right less some)))
 
-pub split-add : {pn pd theta m₁ m₂ f₁ f₂ : ℕ} {e₁ e₂ : Fraction} → Split pn pd theta m₁ f₁ e₁ → Split pn pd theta m₂ f₂ e₂
+split-add : {pn pd theta m₁ m₂ f₁ f₂ : ℕ} {e₁ e₂ : Fraction} → Split pn pd theta m₁ f₁ e₁ → Split pn pd theta m₂ f₂ e₂
     → Split pn pd theta (m₁ + m₂) (f₁ + f₂) (plus e₁ e₂)
 split-add {pn} {pd} {theta} {m₁} {m₂} {f₁} {f₂} {e₁} {e₂} s₁ s₂ =
     record {
@@ -114,3 +90,52 @@ split-add {pn} {pd} {theta} {m₁} {m₂} {f₁} {f₂} {e₁} {e₂} s₁ s₂ 
   where
     same : {m t t′ f f′ v v′ : ℕ} → t ≡ t′ → f ≡ f′ → v ≡ v′ → Parts pn pd t m f v → Parts pn pd t′ m f′ v′
     same p q r h = rw (← p, ← q, ← r) h
+
+pub split-adds : (pn pd theta : ℕ) → Adding (Split pn pd theta)
+split-adds pn pd theta = record { none = split-nothing pn pd theta; more = λ m n f e h s. split-more s n h; add = λ m n f g d e s t. split-add s t }
+
+-- ---- a whole number that the fraction does not pass: each of its cuts rounded up by itself
+
+-- at most p times the count, and theta for each cut: one that is excused gives at most theta, and else rounding costs less than 1, which theta pays
+pub record Capped (pn pd theta m f : ℕ) (e : Fraction) : Type 0 where
+  pub cap : ℕ
+  pub reached : numerator e ≤ cap * e .bottom
+  pub under : pd * cap ≤ pn * f + pd * (m * theta)
+
+module _ (pn pd theta : ℕ) where
+  -- a whole number
+  pub capped-whole : (f : ℕ) (e : Fraction) → e .top ≡ 0 → Split pn pd theta 0 f e → Capped pn pd theta 0 f e
+  capped-whole f e z s =
+      record {
+        cap = e .whole;
+        reached = omega arith;
+        under = le-of-mul-le-mul-right {k = e .bottom} (omega (arith, s .parts .v-over, ap (λ (t : ℕ). pd * t) z)) (s .positive);
+      }
+
+  -- a cut that is not excused
+  pub capped-near : (f : ℕ) (e : Fraction) → 1 ≤ theta → Split pn pd theta 0 f e → Capped pn pd theta 1 f e
+  capped-near f e h s =
+      record {
+        cap = rounded e;
+        reached = rounded-reaches e (s .positive);
+        under =
+            le-of-mul-le-mul-right {k = e .bottom}
+            (omega (arith, s .parts .v-over, mul-le-mul-left pd (le-of-lt (rounded-tight e (s .positive))), mul-le-mul-right (pd * e .bottom) h)) (s .positive);
+      }
+
+  -- and one that is
+  pub capped-small : (f : ℕ) (e : Fraction) → numerator e ≤ theta * e .bottom → Capped pn pd theta 1 f e
+  capped-small f e h = record { cap = theta; reached = h; under = omega arith }
+
+  pub capped-adds : Adding (Capped pn pd theta)
+  capped-adds =
+      record {
+        none = record { cap = 0; reached = omega arith; under = omega arith };
+        more = λ m n f e h c. record { cap = c .cap; reached = c .reached; under = omega (arith, c .under, mul-le-mul-left pd (mul-le-mul-right theta h)) };
+        add = λ m n f g d e c b.
+            record {
+              cap = c .cap + b .cap;
+              reached = omega (arith, mul-le-mul-right (e .bottom) (c .reached), mul-le-mul-right (d .bottom) (b .reached));
+              under = omega (arith, c .under, b .under);
+            };
+      }

@@ -3,12 +3,14 @@
 -- Assumes nothing.
 use mathlib.Core.Path.{_≡_}
 use mathlib.Core.Bool.{true, false}
-use mathlib.Core.List.{List, [], _∷_}
+use mathlib.Core.List.{List, [], _∷_, _++_}
 use Prim.Native.Nat.{ℕ, _-_, _*_}
 use lib.Dec.{leb, ltb}
 use Rattle.words_rules.specs.Worked.{zeros}
 use Rattle.fit.specs.Accepted.{accepted}
-use Rattle.accuracy.specs.Claims.{count, answer}
+use Rattle.laws.specs.Reply.{answered}
+use Rattle.estimate_rules.specs.Search.{searchReply}
+use Rattle.accuracy.specs.Claims.{count, answer, countOf, answerOf, Rule, ShorterRule}
 
 -- a number between two spikes, each in a bucketlet of 9 entries that stands for 93; theta is 98, which excuses a spike
 abbrev pub spikes : ℕ → List ℕ
@@ -26,6 +28,26 @@ small = 19 ∷ 98 ∷ 0x1404 ∷ 1 ∷ 0x40000209 ∷ 0x8E24E000 ∷ 0x80000D41 
 abbrev pub alone : List ℕ
 alone = 2 ∷ 1 ∷ 0x1404 ∷ 1 ∷ 0x40000201 ∷ 0x8E040000 ∷ 0x80000EA0 ∷ 0xC0040000 ∷ 0xC0000000 ∷ []
 
+-- ---- the same of two ranges
+
+abbrev pub two : List ℕ
+two = 8 ∷ 11 ∷ 27 ∷ 30 ∷ []
+
+-- spikes 116 twice, one after the other
+abbrev pub largeTwice : List ℕ
+largeTwice = 38 ∷ 98 ∷ 0x1404 ∷ 1 ∷ 0x40000209 ∷ 0x8E38E38E ∷ 0x8E0009C3 ∷ 0xC0041209 ∷ 0xC0041200 ∷ []
+
+-- 1 between two higher spikes among words that no longer occur, and such a list twice
+abbrev pub bare : List ℕ
+bare = 0 ∷ 0 ∷ 0 ∷ 0 ∷ 0 ∷ 0 ∷ 0 ∷ 0 ∷ 98 ∷ 1 ∷ 98 ∷ 0 ∷ 0 ∷ 0 ∷ 0 ∷ 0 ∷ 0 ∷ 0 ∷ 0 ∷ []
+
+abbrev pub bareTwice : List ℕ
+bareTwice = 38 ∷ 98 ∷ 0x1404 ∷ 1 ∷ 0x40000209 ∷ 0x8E04E381 ∷ 0x8E000C42 ∷ 0xC0041209 ∷ 0xC0041200 ∷ []
+
+-- 116 twice with theta 1
+abbrev pub pair : List ℕ
+pair = 2 ∷ 1 ∷ 0x1404 ∷ 1 ∷ 0x40000201 ∷ 0x8E380000 ∷ 0x80000E81 ∷ 0xC0040000 ∷ 0xC0000000 ∷ []
+
 pub record Worked : Type 0 where
   pub all-accepted : accepted (spikes 116) large ∷ accepted (spikes 17) small ∷ accepted (116 ∷ 1 ∷ []) alone ∷ [] ≡ true ∷ true ∷ true ∷ []
   pub counts : count (spikes 116) 8 11 ∷ count (spikes 17) 8 11 ∷ count (116 ∷ 1 ∷ []) 0 1 ∷ [] ≡ 296 ∷ 197 ∷ 116 ∷ []
@@ -39,3 +61,19 @@ pub record Worked : Type 0 where
   -- of words that no longer occur, whole and cut, the count is 0 and the answer 1
   pub zeros-accepted : accepted (0 ∷ 0 ∷ 0 ∷ []) zeros ≡ true
   pub zeros-answered : count (0 ∷ 0 ∷ 0 ∷ []) 0 3 ∷ answer zeros 0 3 ∷ count (0 ∷ 0 ∷ 0 ∷ []) 1 2 ∷ answer zeros 1 2 ∷ [] ≡ 0 ∷ 1 ∷ 0 ∷ 1 ∷ []
+
+pub record WorkedTwo : Type 0 where
+  pub all-accepted :
+      accepted (spikes 116 ++ spikes 116) largeTwice ∷ accepted (bare ++ bare) bareTwice ∷ accepted (116 ∷ 116 ∷ []) pair ∷ [] ≡ true ∷ true ∷ true ∷ []
+  pub counts : countOf (spikes 116 ++ spikes 116) two ∷ countOf (bare ++ bare) two ∷ countOf (116 ∷ 116 ∷ []) (0 ∷ 1 ∷ 1 ∷ 2 ∷ []) ∷ [] ≡ 592 ∷ 394 ∷ 232 ∷ []
+  pub answers : answerOf largeTwice two ∷ answerOf bareTwice two ∷ answerOf pair (0 ∷ 1 ∷ 1 ∷ 2 ∷ []) ∷ [] ≡ 228 ∷ 44 ∷ 186 ∷ []
+  pub searched : searchReply largeTwice two ∷ searchReply bareTwice two ∷ searchReply pair (0 ∷ 1 ∷ 1 ∷ 2 ∷ []) ∷ [] ≡ answered 228 ∷ answered 44 ∷ answered 186 ∷ []
+  -- k 6: 592 is above 6 theta; it is within q times k/(k - 4) of 228, and not within q times k/(k - 3)
+  pub four-cuts : ltb (6 * 98) 592 ∷ leb (4 * (6 - 4) * 592) (5 * 6 * 228) ∷ leb (4 * (6 - 3) * 592) (5 * 6 * 228) ∷ [] ≡ true ∷ true ∷ false ∷ []
+  -- k 5: 394 is above 4 theta and not above 5 theta; it is not within q times k/(k - 4) of 44
+  pub below-theta : ltb (4 * 98) 394 ∷ ltb (5 * 98) 394 ∷ leb (4 * (5 - 4) * 394) (5 * 5 * 44) ∷ [] ≡ true ∷ false ∷ false ∷ []
+  -- k 231: 232 is above 231 theta; it is within q times k/(k - 4) of 186, and not within k/(k - 4)
+  pub needs-q : ltb (231 * 1) 232 ∷ leb (4 * (231 - 4) * 232) (5 * 231 * 186) ∷ leb ((231 - 4) * 232) (231 * 186) ∷ [] ≡ true ∷ true ∷ false ∷ []
+  -- so both rules are as they should be: with a smaller factor, without q or from a smaller multiple of theta on they would fail here
+  pub rules : Rule 98 5 4 2 6 592 228 × Rule 98 5 4 2 5 394 44 × Rule 1 5 4 2 231 232 186
+  pub shorter-rules : ShorterRule 98 5 4 2 6 592 228 × ShorterRule 98 5 4 2 5 394 44 × ShorterRule 1 5 4 2 231 232 186

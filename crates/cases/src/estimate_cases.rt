@@ -11,7 +11,7 @@ use super::reply::refusal;
 use super::reply::report_reply;
 use estimator::Asked;
 
-fn given(asked: Asked) -> Reply {
+pub(crate) fn given(asked: Asked) -> Reply {
     match asked {
         Asked::Estimate(n) => answer(n),
         Asked::Refused(number) => refusal(number),

@@ -7,6 +7,7 @@ mod estimate_cases;
 mod lists;
 mod print;
 mod reply;
+mod search_cases;
 mod word_cases;
 mod worksheet_cases;
 
@@ -16,5 +17,6 @@ fn main() {
     build_cases::run();
     check_cases::run();
     estimate_cases::run();
+    search_cases::run();
     worksheet_cases::run();
 }

@@ -7,11 +7,11 @@ use mathlib.Core.List.{List, [], _∷_}
 use mathlib.Core.Logic.{_⊎_, inl, inr}
 use Prim.Native.Nat.{ℕ, _≤_, max}
 use native.Mathlib.Omega.{arith}
-use borrow.Author.Tests.{le-ltb, eqb-true, eqb-false, eq-eqb, ne-eqb}
+use borrow.Author.Tests.{ltb-false, le-ltb, eqb-true, eqb-false, eq-eqb, ne-eqb}
 use lib.Dec.{ltb, eqb}
 use Rattle.laws.specs.Reply.{answered, refused}
-use Rattle.laws.proofs.Tests.{neither}
-use Rattle.laws.proofs.RefusalLaws.{numbered, none-left, passed, append-passed, append-refused, append-first, refused as refused-at}
+use Rattle.laws.proofs.Tests.{neither, neither-left, neither-right}
+use Rattle.laws.proofs.RefusalLaws.{numbered, none-left, passed, none-true, append-passed, append-refused, append-first, refused as refused-at}
 use Rattle.words_rules.specs.Words.{entries}
 use Rattle.words_rules.specs.Reading.{readSentences, readFault, Readable}
 use Rattle.estimate_rules.specs.declared.Fraction.{Fraction}
@@ -73,6 +73,14 @@ module _ (ws : List ℕ) (x y : ℕ) where
   pub asked-readable : askFault ws x y ≡ 0 → Readable ws
   unfolding numbered
   asked-readable e = append-first (readSentences ws) (record { number = 14; holds = rangeFault ws x y } ∷ []) refl e
+
+  -- what is not refused lies within the list
+  pub asked-within : askFault ws x y ≡ 0 → (x ≤ y) × (y ≤ entries ws)
+  unfolding numbered rangeFault
+  asked-within e =
+      let none = none-true (record { number = 14; holds = rangeFault ws x y } ∷ []) refl
+      (sym (append-passed (readSentences ws) (record { number = 14; holds = rangeFault ws x y } ∷ []) refl (asked-readable e)) ∙ e) .0 in
+      (ltb-false y x (neither-left (ltb y x) (ltb (entries ws) y) none), ltb-false (entries ws) y (neither-right (ltb y x) (ltb (entries ws) y) none))
 
   pub reply-refused : (askFault ws x y ≡ 0 → ⊥) → estimateReply ws x y ≡ refused (askFault ws x y)
   unfolding estimateReply

@@ -12,7 +12,8 @@ use Rattle.estimate_rules.specs.Exact.{piece, bucketPiece, exact}
 use Rattle.estimate_rules.specs.Asking.{rangeFault, raised, estimate, estimateReply}
 use Rattle.estimate_rules.specs.Running.{totalsFrom, runningTotal, fillReply, totalsFilled}
 use Rattle.estimate_rules.specs.Worksheet.{shortFault, totalsFault, rangesFault, worksheetReply, worksheetAnswered}
-use Rattle.estimate_rules.specs.Worked.{Worked, WorkedSheets}
+use Rattle.estimate_rules.specs.Search.{countFault, orderFault, searchReply}
+use Rattle.estimate_rules.specs.Worked.{Worked, WorkedSheets, WorkedSearches}
 
 pub worked : Worked
 unfolding each some refusal first largest root classNumber middle totalNumber validFields decode headGood headFault largeQFault lengthFault wordsBroken wordFault startFault widthsBroken widthFault classBroken totalBroken codesBroken codeFault sumOf rounded piece bucketPiece exact rangeFault raised estimate estimateReply
@@ -59,4 +60,21 @@ worked-sheets =
       sheet-ranges = refl;
       sheet-empty = refl;
       sheet-order = refl;
+    }
+
+pub worked-searches : WorkedSearches
+unfolding each some refusal first largest root classNumber middle totalNumber validFields decode headGood headFault largeQFault lengthFault wordsBroken wordFault startFault widthsBroken widthFault classBroken totalBroken codesBroken codeFault sumOf rounded piece bucketPiece exact rangeFault raised estimate countFault orderFault searchReply
+worked-searches =
+    record {
+      one-range = refl;
+      four-ranges = refl;
+      each-rounded = refl;
+      over-buckets = refl;
+      broken = refl;
+      odd = refl;
+      most = refl;
+      too-many = refl;
+      order = refl;
+      touching = refl;
+      refusal-order = refl;
     }

@@ -4,7 +4,9 @@ pub mod ExactLaws
 pub mod AskingLaws
 pub mod CutLaws
 pub mod SpanLaws
+pub mod RangesLaws
 pub mod RunningLaws
 pub mod WorksheetLaws
+pub mod SearchLaws
 pub mod SizeLaws
 pub mod Proved

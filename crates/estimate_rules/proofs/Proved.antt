@@ -3,9 +3,12 @@ use mathlib.Core.Path.{_≡_, refl, sym, ap, subst, _∙_}
 use mathlib.Core.List.{List}
 use mathlib.Core.Logic.{⊎-elim}
 use Prim.Native.Nat.{ℕ, _+_, _*_, _^_, _≤_, _<_}
-use native.Mathlib.Nat.{mul-le-mul-right, le-trans, pow-le-pow-right}
+use native.Mathlib.Nat.{mul-le-mul-right, le-trans, pow-le-pow-right, eq-zero-or-pos}
 use native.Mathlib.Omega.{arith}
-use Rattle.laws.specs.Reply.{answered}
+use Rattle.laws.specs.Reply.{Reply, answered}
+use Rattle.laws.specs.Sums.{sum}
+use Rattle.laws.specs.Tabulate.{tabulate}
+use Rattle.laws.proofs.TabulateLaws.{sums-within}
 use Rattle.words_rules.specs.Limits.{maxWidth}
 use Rattle.words_rules.specs.Words.{entries, buckets}
 use Rattle.words_rules.specs.Reading.{Readable}
@@ -14,13 +17,16 @@ use Rattle.estimate_rules.specs.declared.Fraction.{Fraction}
 use Rattle.estimate_rules.specs.Fraction.{numerator, rounded}
 use Rattle.estimate_rules.specs.Exact.{bucketPiece, exact}
 use Rattle.estimate_rules.specs.Asking.{raised, estimate, estimateReply}
-use Rattle.estimate_rules.specs.Claims.{Sizes, RoundedUp, Estimates, RunningTotals, Worksheets}
+use Rattle.estimate_rules.specs.Ranges.{rangeCount, xAt, yAt}
+use Rattle.estimate_rules.specs.Search.{searchFault, searchReply}
+use Rattle.estimate_rules.specs.Claims.{Sizes, RoundedUp, Estimates, RunningTotals, Worksheets, Searches}
 use Rattle.estimate_rules.proofs.FractionLaws.{rounded-reaches, rounded-most, sum-none}
 use Rattle.estimate_rules.proofs.AskingLaws.{raised-or, raised-empty, raised-some, reply-is}
 use Rattle.estimate_rules.proofs.CutLaws.{cuts, cuts-most}
 use Rattle.estimate_rules.proofs.SpanLaws.{bucket-none, exact-holds}
 use Rattle.estimate_rules.proofs.RunningLaws.{joined, difference, running-small, by-totals}
 use Rattle.estimate_rules.proofs.WorksheetLaws.{filled-fits, filled-past, filled-length, each-single, totals-past, totals-past-answers, answers-past, answers-length, empty as empty-sheet}
+use Rattle.estimate_rules.proofs.SearchLaws.{search-readable, most-ranges, search-answered, search-refused, searched, single}
 use Rattle.estimate_rules.proofs.SizeLaws.{Sized, sized-joined, bucketlet-sized, total-sized}
 
 rounded-up : (e : Fraction) → 0 < e .bottom → RoundedUp e (rounded e)
@@ -88,6 +94,21 @@ module _ (ws : List ℕ) (readable : Readable ws) (x : ℕ) where
   empty : x ≤ entries ws → estimateReply ws x x ≡ answered 0
   empty h = reply-is ws x x readable (omega arith) h ∙ ap answered none
 
+module _ (ws ranges : List ℕ) where
+  -- the estimates of the first n ranges together
+  pub sum-small : Readable ws → (n : ℕ) → sum (tabulate n (λ i. estimate ws (xAt ranges i) (yAt ranges i))) ≤ n * 2 ^ 48
+  sum-small r n =
+      let f : ℕ → ℕ = λ i. estimate ws (xAt ranges i) (yAt ranges i) in
+      omega (arith, sums-within n 1 0 (2 ^ 48) f f (λ i l. omega (arith, sizes ws r (xAt ranges i) (yAt ranges i) .answer-small)))
+
+  search-small : searchReply ws ranges .value ≤ 2 ^ 52
+  search-small =
+      ⊎-elim
+      (λ (e : searchFault ws ranges ≡ 0).
+      omega (arith, sum-small (search-readable ws ranges e) (rangeCount ranges), most-ranges ws ranges e, ap (λ (r : Reply). r .value) (search-answered ws ranges e)))
+      (λ (h : 0 < searchFault ws ranges). omega (arith, ap (λ (r : Reply). r .value) (search-refused ws ranges _ refl (λ z. omega arith))))
+      (eq-zero-or-pos (searchFault ws ranges))
+
 pub estimates : Estimates
 estimates = record { rounded-up = rounded-up; sum-rounded-up = sum-rounded-up; never-0 = never-0; sum-of-0 = sum-of-0; sizes = sizes; empty = empty }
 
@@ -113,3 +134,6 @@ worksheets =
       answers-length = answers-length;
       empty = empty-sheet;
     }
+
+pub searches : Searches
+searches = record { searched = searched; single = single; small = search-small }

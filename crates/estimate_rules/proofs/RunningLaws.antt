@@ -98,6 +98,10 @@ module _ (ws : List ℕ) (readable : Readable ws) (x y : ℕ) (some : x < y) (wi
       (le-leb x (start ws b) (omega (arith, end-before ws readable first b l (omega (arith, in-last .is-bucket)), in-first .before)))
       (le-leb (end ws b) y (omega (arith, end-before ws readable b last g (in-last .is-bucket), in-last .from))))
 
+  -- before the first there is nothing to sum
+  pub sum-first : sumOf (bucketOf ws x) (bucketPiece ws x y) ≡ nothing
+  sum-first = sum-none first (bucketPiece ws x y) none-before
+
   -- the sum up to a bucket that is not after the last
   pub sum-before : (n : ℕ) → bucketOf ws x < n → n ≤ bucketOf ws (y - 1)
       → sumOf n (bucketPiece ws x y) ≡ plus (bucketPiece ws x y (bucketOf ws x)) (number (runningTotal ws n - runningTotal ws (bucketOf ws x + 1)))
@@ -111,7 +115,7 @@ module _ (ws : List ℕ) (readable : Readable ws) (x y : ℕ) (some : x < y) (wi
       let same : suc n ≡ first + 1 = omega arith in
       let z : r (suc n) - r (first + 1) ≡ 0 = omega (arith, ap r same) in
       ap (λ (k : ℕ). plus (sumOf k f) (f k)) (sym e)
-      ∙ ap (λ (s : Fraction). plus s (f first)) (sum-none first f none-before)
+      ∙ ap (λ (s : Fraction). plus s (f first)) sum-first
       ∙ nothing-plus (f first)
       ∙ sym (ap (λ (k : ℕ). plus (f first) (number k)) z ∙ plus-nothing (f first)))
       (λ (g : first < n).

@@ -4,9 +4,9 @@
 use mathlib.Core.Path.{_≡_, refl, sym, ap, _∙_}
 use mathlib.Core.Bool.{Bool, true, false, cond, not, _||_}
 use mathlib.Core.List.{List, [], _∷_, _++_}
-use Prim.Native.Nat.{ℕ, _+_, _-_, _%_, _≤_, _<_}
+use Prim.Native.Nat.{ℕ, _+_, _-_, _≤_, _<_}
 use native.Mathlib.Omega.{arith}
-use borrow.Author.Tests.{ltb-true, ltb-false, lt-ltb, le-ltb, eqb-true, eq-eqb, ne-eqb}
+use borrow.Author.Tests.{ltb-true, ltb-false, lt-ltb, le-ltb, eqb-true, eq-eqb}
 use lib.Dec.{ltb, eqb}
 use lib.ListN.{length, take, drop, length-append, length-take, length-drop, List·getD-append}
 use lib.Seq.{getD-take, getD-drop, getD-append-add}
@@ -14,17 +14,19 @@ use Rattle.laws.specs.Refusal.{refusal}
 use Rattle.laws.specs.Reply.{answered, refused}
 use Rattle.laws.specs.Each.{each, some}
 use Rattle.laws.specs.Tabulate.{tabulate}
-use Rattle.laws.proofs.EachLaws.{some-none, some-same, none-at}
+use Rattle.laws.proofs.EachLaws.{some-none, some-same}
 use Rattle.laws.proofs.RefusalLaws.{numbered, none-left, passed, refused as refused-at, none-true, append-passed, append-refused, append-first}
 use Rattle.laws.proofs.ReplyLaws.{lent-refused, lent-answered}
 use Rattle.laws.proofs.TabulateLaws.{length-tabulate, getD-tabulate}
-use Rattle.laws.proofs.Tests.{holds-left, neither, neither-left, neither-right}
-use Rattle.words_rules.specs.Words.{word, entries}
+use Rattle.laws.proofs.Tests.{neither, neither-left, neither-right}
+use Rattle.words_rules.specs.Words.{word}
 use Rattle.words_rules.specs.Reading.{readSentences, readFault, Readable}
-use Rattle.estimate_rules.specs.Asking.{rangeFault, estimateReply}
+use Rattle.estimate_rules.specs.Asking.{estimateReply}
+use Rattle.estimate_rules.specs.Ranges.{rangeCount, leftOver, xAt, yAt, someRefused}
 use Rattle.estimate_rules.specs.Running.{runningTotal, totalPlaces, runningTotals, totalsShort, fillSentences, fillFault, fillReply, totalsFilled}
-use Rattle.estimate_rules.specs.Worksheet.{rangeCount, xAt, yAt, shortFault, wrongAt, totalsFault, refusedAt, rangesFault, worksheetSentences, worksheetFault, answerAt, worksheetAnswers, worksheetReply, worksheetAnswered}
+use Rattle.estimate_rules.specs.Worksheet.{shortFault, wrongAt, totalsFault, rangesFault, worksheetSentences, worksheetFault, answerAt, worksheetAnswers, worksheetReply, worksheetAnswered}
 use Rattle.estimate_rules.proofs.AskingLaws.{reply-is}
+use Rattle.estimate_rules.proofs.RangesLaws.{range-ordered, range-within}
 
 -- ---- a list that is written over the first places of another
 
@@ -158,32 +160,9 @@ module _ (ws totals sheet : List ℕ) (lent : ℕ) where
     pub sheet-right : totalsFault ws totals ≡ false
     sheet-right = faultless .1
 
-    pub sheet-in-list : rangesFault ws sheet ≡ false
-    sheet-in-list = faultless .2
-
--- 21 by its parts
-module _ (ws sheet : List ℕ) where
-  pub odd-fault : (length sheet % 2 ≡ 0 → ⊥) → rangesFault ws sheet ≡ true
-  unfolding rangesFault
-  odd-fault h = holds-left _ (some (rangeCount sheet) (refusedAt ws sheet)) (ap not (ne-eqb (length sheet % 2) 0 h))
-
-  pub even-fault : length sheet % 2 ≡ 0 → rangesFault ws sheet ≡ some (rangeCount sheet) (refusedAt ws sheet)
-  unfolding rangesFault
-  even-fault e = ap (λ (t : Bool). not t || some (rangeCount sheet) (refusedAt ws sheet)) (eq-eqb (length sheet % 2) 0 e)
-
--- the ranges of a sheet that 21 does not refuse
-module _ (ws sheet : List ℕ) (h : rangesFault ws sheet ≡ false) (i : ℕ) (l : i < rangeCount sheet) where
-  in-list : refusedAt ws sheet i ≡ false
-  unfolding rangesFault
-  in-list = none-at (rangeCount sheet) (refusedAt ws sheet) (neither-right (not (eqb (length sheet % 2) 0)) _ h) i l
-
-  pub range-ordered : xAt sheet i ≤ yAt sheet i
-  unfolding rangeFault
-  range-ordered = ltb-false _ _ (neither-left (ltb (yAt sheet i) (xAt sheet i)) (ltb (entries ws) (yAt sheet i)) in-list)
-
-  pub range-within : yAt sheet i ≤ entries ws
-  unfolding rangeFault
-  range-within = ltb-false _ _ (neither-right (ltb (yAt sheet i) (xAt sheet i)) (ltb (entries ws) (yAt sheet i)) in-list)
+    pub sheet-in-list : someRefused ws sheet ≡ false
+    unfolding rangesFault
+    sheet-in-list = neither-right (leftOver sheet) (someRefused ws sheet) (faultless .2)
 
 module _ (ws totals sheet old : List ℕ) where
   abbrev fault : ℕ

@@ -1,8 +1,8 @@
--- What is claimed of estimates, of running totals and of worksheets; proofs/Proved.antt proves it.
+-- What is claimed of estimates, of running totals, of worksheets and of searches; proofs/Proved.antt proves it.
 -- Assumes nothing.
 use mathlib.Core.Path.{_≡_}
 use mathlib.Core.Bool.{false}
-use mathlib.Core.List.{List, []}
+use mathlib.Core.List.{List, [], _∷_}
 use Prim.Native.Nat.{ℕ, _+_, _-_, _*_, _^_, _≤_, _<_}
 use lib.ListN.{length, take}
 use Rattle.laws.specs.Reply.{answered}
@@ -14,8 +14,10 @@ use Rattle.estimate_rules.specs.declared.Fraction.{Fraction}
 use Rattle.estimate_rules.specs.Fraction.{number, plus, numerator, rounded}
 use Rattle.estimate_rules.specs.Exact.{bucketPiece, exact}
 use Rattle.estimate_rules.specs.Asking.{estimate, estimateReply}
+use Rattle.estimate_rules.specs.Ranges.{rangeCount, xAt, yAt, sumOver}
 use Rattle.estimate_rules.specs.Running.{totalsFrom, runningTotal, totalPlaces, totalsFilled}
-use Rattle.estimate_rules.specs.Worksheet.{rangeCount, xAt, yAt, totalsFault, worksheetFault, worksheetReply, worksheetAnswered}
+use Rattle.estimate_rules.specs.Worksheet.{totalsFault, worksheetFault, worksheetReply, worksheetAnswered}
+use Rattle.estimate_rules.specs.Search.{maxRanges, searchFault, searchReply}
 
 -- the numbers of the sum, and so the answer, are far below 2^64, as the whole parts stay outside the common denominator
 pub record Sizes (ws : List ℕ) (x y : ℕ) : Type 0 where
@@ -74,3 +76,20 @@ pub record Worksheets : Type 0 where
   pub answers-length : (ws totals sheet old : List ℕ) → length (worksheetAnswered ws totals sheet old) ≡ length old
   -- the empty sheet
   pub empty : (ws totals : List ℕ) → Readable ws → totalPlaces ws ≤ length totals → totalsFault ws totals ≡ false → (lent : ℕ) → worksheetReply ws totals [] lent ≡ answered 0
+
+-- of a search that is answered
+pub record Searched (ws ranges : List ℕ) : Type 0 where
+  pub some-ranges : 1 ≤ rangeCount ranges
+  pub most-ranges : rangeCount ranges ≤ maxRanges
+  -- each range is one that the single call answers, and the sum is that of its answers
+  pub each-answered : (i : ℕ) → i < rangeCount ranges → estimateReply ws (xAt ranges i) (yAt ranges i) .refusal ≡ 0
+  pub sum-of-singles : searchReply ws ranges ≡ answered (sumOver ranges (λ x y. estimateReply ws x y .value))
+  -- no entry is in two ranges: each ends before any later one starts
+  pub apart : (i j : ℕ) → i < j → j < rangeCount ranges → yAt ranges i ≤ xAt ranges j
+
+pub record Searches : Type 0 where
+  pub searched : (ws ranges : List ℕ) → searchFault ws ranges ≡ 0 → Searched ws ranges
+  -- of one range it is the single call
+  pub single : (ws : List ℕ) (x y : ℕ) → searchReply ws (x ∷ y ∷ []) ≡ estimateReply ws x y
+  -- far below 2^64
+  pub small : (ws ranges : List ℕ) → searchReply ws ranges .value ≤ 2 ^ 52

@@ -1,7 +1,9 @@
 pub mod Fraction
 pub mod Exact
 pub mod Asking
+pub mod Ranges
 pub mod Running
 pub mod Worksheet
+pub mod Search
 pub mod Claims
 pub mod Worked

@@ -1,14 +1,16 @@
--- The starred examples of estimates (document 01, "Examples"), ranges that tell the natural missteps apart, and running totals and worksheets.
+-- The starred examples of estimates (document 01, "Examples"), ranges that tell the natural missteps apart, running totals and
+-- worksheets, and searches.
 -- Assumes nothing.
 use mathlib.Core.Path.{_≡_}
-use mathlib.Core.List.{List, [], _∷_, map}
-use Prim.Native.Nat.{ℕ, _+_, _*_, _^_}
+use mathlib.Core.List.{List, [], _∷_, _++_, map}
+use Prim.Native.Nat.{ℕ, zero, suc, _+_, _*_, _^_}
 use lib.ListN.{take, set}
 use Rattle.laws.specs.Reply.{Reply, answered, refused}
 use Rattle.words_rules.specs.Worked.{tens, gaps, zeros, two}
 use Rattle.estimate_rules.specs.Asking.{estimateReply}
 use Rattle.estimate_rules.specs.Running.{totalsFrom, runningTotals, fillReply, totalsFilled}
 use Rattle.estimate_rules.specs.Worksheet.{worksheetReply, worksheetAnswered}
+use Rattle.estimate_rules.specs.Search.{searchReply}
 
 -- two bucketlets of width 3 and number 4, with the total 9
 abbrev pub thirds : List ℕ
@@ -111,3 +113,38 @@ pub record WorkedSheets : Type 0 where
       worksheetReply [] [] sheet 0 ∷ worksheetReply (set three 2 (9 * 2 ^ 10 + 1)) [] sheet 0 ∷ worksheetReply (take 18 three) [] sheet 0
       ∷ worksheetReply three (1 ∷ 40 ∷ 90 ∷ 150 ∷ []) sheet 4 ∷ worksheetReply three (1 ∷ 40 ∷ 90 ∷ 150 ∷ []) (3 ∷ 2 ∷ 1 ∷ []) 1 ∷ []
       ≡ refused 7 ∷ refused 24 ∷ refused 8 ∷ refused 19 ∷ refused 20 ∷ []
+
+-- the four entries of tens, and then so many empty ranges at its end
+abbrev fours : ℕ → List ℕ
+fours zero = 0 ∷ 1 ∷ 1 ∷ 2 ∷ 2 ∷ 3 ∷ 3 ∷ 4 ∷ []
+fours (suc n) = fours n ++ (4 ∷ 4 ∷ [])
+
+abbrev inTens : List ℕ → Reply
+inTens ranges = searchReply tens ranges
+
+pub record WorkedSearches : Type 0 where
+  -- one range is answered as by the single call: 17, 26, 40, and 0 for the empty one
+  pub one-range : map inTens ((1 ∷ 3 ∷ []) ∷ (0 ∷ 3 ∷ []) ∷ (0 ∷ 4 ∷ []) ∷ (2 ∷ 2 ∷ []) ∷ []) ≡ answered 17 ∷ answered 26 ∷ answered 40 ∷ answered 0 ∷ []
+  -- each range is rounded by itself: 17/2 four times, where one sum gives 34
+  pub four-ranges : inTens (fours 0) ≡ answered 36
+  -- 4/3 twice, and 1 twice where the sum is 0
+  pub each-rounded : searchReply thirds (2 ∷ 3 ∷ 3 ∷ 4 ∷ []) ∷ searchReply zeros (0 ∷ 1 ∷ 1 ∷ 2 ∷ 3 ∷ 3 ∷ []) ∷ [] ≡ answered 4 ∷ answered 2 ∷ []
+  -- buckets of three: 51/2, 50 and 51/2
+  pub over-buckets : searchReply three (1 ∷ 4 ∷ 4 ∷ 8 ∷ 8 ∷ 11 ∷ []) ≡ answered 102
+  -- 14 for a range, never for the word left over
+  pub broken : map inTens ((0 ∷ 5 ∷ 7 ∷ []) ∷ (3 ∷ 2 ∷ 2 ∷ 4 ∷ []) ∷ (0 ∷ 1 ∷ 5 ∷ 5 ∷ []) ∷ []) ≡ refused 14 ∷ refused 14 ∷ refused 14 ∷ []
+  -- 22: a word left over, whatever it is, or no range
+  pub odd : map inTens ((5 ∷ []) ∷ [] ∷ (0 ∷ 1 ∷ 5 ∷ []) ∷ (0 ∷ 1 ∷ 1 ∷ []) ∷ []) ≡ refused 22 ∷ refused 22 ∷ refused 22 ∷ refused 22 ∷ []
+  -- sixteen ranges are taken; a seventeenth is not, and 14 is said of it first; nor is a word after the sixteenth
+  pub most : inTens (fours 12) ≡ answered 36
+  pub too-many : inTens (fours 13) ∷ inTens (fours 12 ++ (4 ∷ 5 ∷ [])) ∷ inTens (fours 12 ++ (4 ∷ [])) ∷ [] ≡ refused 22 ∷ refused 14 ∷ refused 22 ∷ []
+  -- 23, also where a range is empty; one may start where the one ahead of it ends
+  pub order :
+      map inTens ((0 ∷ 3 ∷ 2 ∷ 4 ∷ []) ∷ (3 ∷ 3 ∷ 2 ∷ 4 ∷ []) ∷ (0 ∷ 4 ∷ 2 ∷ 2 ∷ []) ∷ (0 ∷ 1 ∷ 2 ∷ 4 ∷ 3 ∷ 4 ∷ []) ∷ [])
+      ≡ refused 23 ∷ refused 23 ∷ refused 23 ∷ refused 23 ∷ []
+  pub touching : map inTens ((0 ∷ 2 ∷ 2 ∷ 4 ∷ []) ∷ (0 ∷ 0 ∷ 0 ∷ 4 ∷ 4 ∷ 4 ∷ []) ∷ []) ≡ answered 34 ∷ answered 40 ∷ []
+  -- 14 comes before 22, 22 before 23, and a fault of the words before all
+  pub refusal-order :
+      inTens (0 ∷ 3 ∷ 2 ∷ 5 ∷ 7 ∷ []) ∷ inTens (0 ∷ 3 ∷ 2 ∷ 4 ∷ 7 ∷ [])
+      ∷ searchReply [] [] ∷ searchReply (take 8 tens) [] ∷ searchReply (set tens 2 (9 * 2 ^ 10 + 1)) (0 ∷ 5 ∷ []) ∷ []
+      ≡ refused 14 ∷ refused 22 ∷ refused 7 ∷ refused 8 ∷ refused 24 ∷ []

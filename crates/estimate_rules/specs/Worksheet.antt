@@ -2,7 +2,7 @@
 -- Assumes nothing.
 use mathlib.Core.Bool.{Bool, cond, not, _||_}
 use mathlib.Core.List.{List, [], _∷_, _++_}
-use Prim.Native.Nat.{ℕ, _+_, _*_, _/_, _%_}
+use Prim.Native.Nat.{ℕ}
 use lib.Dec.{ltb, eqb}
 use lib.ListN.{length, drop}
 use Rattle.laws.specs.Each.{some}
@@ -11,20 +11,9 @@ use Rattle.laws.specs.Reply.{Reply, answered, refused}
 use Rattle.laws.specs.Tabulate.{tabulate}
 use Rattle.words_rules.specs.Words.{word}
 use Rattle.words_rules.specs.Reading.{readSentences}
-use Rattle.estimate_rules.specs.Asking.{rangeFault, estimate}
+use Rattle.estimate_rules.specs.Asking.{estimate}
+use Rattle.estimate_rules.specs.Ranges.{rangeCount, leftOver, xAt, yAt, someRefused}
 use Rattle.estimate_rules.specs.Running.{runningTotal, totalPlaces, totalsShort}
-
--- half the sheet's length, rounded down; a word left over belongs to no range
-abbrev pub rangeCount : List ℕ → ℕ
-rangeCount sheet = length sheet / 2
-
--- range i of the sheet goes from x to y
-
-abbrev pub xAt : List ℕ → ℕ → ℕ
-xAt sheet i = word sheet (2 * i)
-
-abbrev pub yAt : List ℕ → ℕ → ℕ
-yAt sheet i = word sheet (2 * i + 1)
 
 -- 19: the list of running totals or that of answers is too short
 unfoldable pub shortFault : List ℕ → List ℕ → List ℕ → ℕ → Bool
@@ -39,12 +28,8 @@ unfoldable pub totalsFault : List ℕ → List ℕ → Bool
 totalsFault ws totals = some (totalPlaces ws) (wrongAt ws totals)
 
 -- 21: the sheet's length is odd, or 14 would refuse one of its ranges
-
-abbrev pub refusedAt : List ℕ → List ℕ → ℕ → Bool
-refusedAt ws sheet i = rangeFault ws (xAt sheet i) (yAt sheet i)
-
 unfoldable pub rangesFault : List ℕ → List ℕ → Bool
-rangesFault ws sheet = not (eqb (length sheet % 2) 0) || some (rangeCount sheet) (refusedAt ws sheet)
+rangesFault ws sheet = leftOver sheet || someRefused ws sheet
 
 -- what is tested of a readable list
 abbrev pub worksheetSentences : List ℕ → List ℕ → List ℕ → ℕ → List Sentence

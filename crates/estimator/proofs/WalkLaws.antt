@@ -3,20 +3,22 @@
 use mathlib.Core.Path.{_≡_, refl, sym, ap, subst, _∙_}
 use mathlib.Core.Bool.{true}
 use mathlib.Core.List.{List}
-use Prim.Native.Nat.{ℕ, suc, _+_, _≤_, _<_}
+use Prim.Native.Nat.{ℕ, suc, _+_, _-_, _≤_, _<_}
 use native.Mathlib.Nat.{le-trans}
 use native.Mathlib.Omega.{arith}
 use Rattle.counts_rules.specs.Form.{usedClass}
 use Rattle.words_rules.specs.declared.Bucket.{Bucket}
-use Rattle.words_rules.specs.Words.{buckets, start, end}
+use Rattle.words_rules.specs.Words.{entries, buckets, start, end}
 use Rattle.words_rules.specs.Decoded.{bucketAt, classAt, bucketletStart, widthAt, numberAt}
 use Rattle.words_rules.specs.Reading.{Readable}
+use Rattle.words_rules.specs.Finding.{bucketOf, bucketByHalving}
 use Rattle.words_rules.proofs.Proved.{histogram}
 use Rattle.words_rules.proofs.EntryLaws.{bucketlet-end}
 use Rattle.estimate_rules.specs.declared.Fraction.{Fraction}
 use Rattle.estimate_rules.specs.Fraction.{nothing, plus, sumOf}
 use Rattle.estimate_rules.specs.Exact.{piece, bucketletPiece, bucketPiece, exact}
 use Rattle.estimate_rules.proofs.CutLaws.{rises}
+use Rattle.estimate_rules.proofs.RunningLaws.{in-last, in-order, sum-first, sum-last}
 use Rattle.estimate_rules.proofs.SpanLaws.{bucketlet-within, edge, edges-rise, edge-last, bucketlets-hold, buckets-hold}
 use Rattle.estimate_rules.proofs.SizeLaws.{Sized, sized-joined, bucketlet-sized, total-sized}
 use Rattle.estimator.specs.Private.Adding.{Small}
@@ -90,30 +92,43 @@ module _ (ws : List ℕ) (readable : Readable ws) (x y : ℕ) where
       (buckets-hold ws readable x y (Sized x y) (sized-joined x y) (λ b j h l. bucketlet-sized ws readable x y b h j l) (λ b h t. total-sized ws readable x y b h) n l)
       (le-trans (rises (edge ws) n (buckets ws) (edges-rise ws readable) l) (omega (arith, edge-last ws, histogram .limits ws readable .most-entries)))
 
--- the first n buckets are summed
+-- the buckets before n are summed, of those up to that of the range's last entry
 pub record Passed (ws : List ℕ) (x y : ℕ) (sum : Fraction) (n : ℕ) : Type 0 where
-  pub within : n ≤ buckets ws
+  pub within : n ≤ suc (bucketOf ws (y - 1))
   pub summed : sum ≡ sumOf n (bucketPiece ws x y)
 
-module _ (ws : List ℕ) (readable : Readable ws) (x y : ℕ) where
-  pub pass-start : Passed ws x y nothing 0
-  unfolding sumOf
-  pass-start = record { within = omega arith; summed = refl }
+module _ (ws : List ℕ) (readable : Readable ws) (x y : ℕ) (some : x < y) (within : y ≤ entries ws) where
+  pub pass-start : (b : ℕ) → b ≡ bucketByHalving ws x → Passed ws x y nothing b
+  pass-start b e =
+      let p = e ∙ histogram .entries ws readable .halved x (omega arith) in
+      record {
+        within = omega (arith, p, in-order ws readable x y some within);
+        summed = sym (ap (λ (n : ℕ). sumOf n (bucketPiece ws x y)) p ∙ sum-first ws readable x y some within);
+      }
 
-  module _ (sum : Fraction) (n : ℕ) (passed : Passed ws x y sum n) where
-    next-passed : plus sum (bucketPiece ws x y n) ≡ sumOf (suc n) (bucketPiece ws x y)
-    unfolding sumOf
-    next-passed = ap (λ (s : Fraction). plus s (bucketPiece ws x y n)) (passed .summed)
+  module _ (last : ℕ) (e : last ≡ bucketByHalving ws (y - 1)) where
+    last-is : last ≡ bucketOf ws (y - 1)
+    last-is = e ∙ histogram .entries ws readable .halved (y - 1) (omega arith)
 
-    pub pass-small : n < buckets ws → Small (plus sum (bucketPiece ws x y n))
-    pass-small l = subst Small (sym next-passed) (buckets-small ws readable x y (suc n) l)
+    last-in : last < buckets ws
+    last-in = omega (arith, last-is, in-last ws readable x y some within .is-bucket)
 
-    pub pass-step : n < buckets ws → (u : Fraction) → u ≡ plus sum (bucketPiece ws x y n) → Passed ws x y u (suc n)
-    pass-step l u f = record { within = l; summed = f ∙ next-passed }
+    pub pass-bucket : (n : ℕ) → n ≤ last → n < buckets ws
+    pass-bucket n l = omega (arith, last-in)
 
-    pub pass-end : n ≡ buckets ws → sum ≡ exact ws x y
-    unfolding exact
-    pass-end e = passed .summed ∙ ap (λ (n : ℕ). sumOf n (bucketPiece ws x y)) e
+    module _ (sum : Fraction) (n : ℕ) (passed : Passed ws x y sum n) where
+      next-passed : (t : Fraction) → t ≡ bucketPiece ws x y n → plus sum t ≡ sumOf (suc n) (bucketPiece ws x y)
+      unfolding sumOf
+      next-passed t p = let q = passed .summed in λ i. plus (q i) (p i)
 
-    pub passed-small : Small sum
-    passed-small = subst Small (sym (passed .summed)) (buckets-small ws readable x y n (passed .within))
+      pub pass-small : n ≤ last → (t : Fraction) → t ≡ bucketPiece ws x y n → Small (plus sum t)
+      pass-small l t p = subst Small (sym (next-passed t p)) (buckets-small ws readable x y (suc n) (pass-bucket n l))
+
+      pub pass-step : n ≤ last → (t u : Fraction) → t ≡ bucketPiece ws x y n → u ≡ plus sum t → Passed ws x y u (suc n)
+      pass-step l t u p q = record { within = omega (arith, last-is); summed = q ∙ next-passed t p }
+
+      pub pass-end : last < n → (sum ≡ exact ws x y) × Small sum
+      pass-end l =
+          let all : n ≡ suc (bucketOf ws (y - 1)) = omega (arith, last-is, passed .within) in
+          let is = passed .summed ∙ ap (λ (n : ℕ). sumOf n (bucketPiece ws x y)) all in
+          (is ∙ sym (sum-last ws readable x y some within), subst Small (sym is) (buckets-small ws readable x y _ (in-last ws readable x y some within .is-bucket)))

@@ -1,20 +1,27 @@
-// The estimator: from a histogram and a range, the estimated count; and from a histogram, its running totals and a worksheet of ranges, those of
-// all its ranges.
+// The estimator: from a histogram and a range, the estimated count; from a histogram and a search of several ranges, the sum of theirs; and from a
+// histogram, its running totals and a worksheet of ranges, those of all its ranges.
 
 mod pieces;
+mod ranges;
 mod running;
+mod search;
 mod worksheet;
 
 use pieces::answer_of;
 use pieces::exact_of;
 use running::fill_fault;
 use running::put_totals;
+use search::search_fault;
+use search::sum_of;
 use worksheet::put_answers;
 use worksheet::worksheet_fault;
 ghost use mathlib.Core.Path.{_≡_};
+ghost use Prim.Native.Nat.{_<_, _≤_};
 ghost use lib.ListN.{length};
+ghost use Rattle.words_rules.specs.Words.{entries};
 ghost use Rattle.words_rules.specs.Reading.{Readable};
 ghost use Rattle.estimate_rules.specs.Asking.{rangeFault, askFault, estimate, estimateReply};
+ghost use Rattle.estimate_rules.specs.Search.{searchReply};
 ghost use Rattle.estimate_rules.specs.Running.{fillReply, totalsFilled};
 ghost use Rattle.estimate_rules.specs.Worksheet.{worksheetReply, worksheetAnswered};
 ghost use Rattle.estimator.specs.Asked.{askedReply, askedOf, filledReply, filledOf, answeredReply, answeredOf};
@@ -58,9 +65,9 @@ pub fn ask_fault(words: &[u32], x: u32, y: u32) -> u32
     0
 }
 
-// The estimate of a range that isn't empty.
-fn estimate_of(words: &[u32], x: u32, y: u32) -> u64
-    requires { ⌜ Readable (now words) × (x ≡ y → ⊥) ⌝ }
+// The estimate of a range within the list that isn't empty.
+pub(crate) fn estimate_of(words: &[u32], x: u32, y: u32) -> u64
+    requires { ⌜ Readable (now words) × (x < y) × (y ≤ entries (now words)) ⌝ }
     ensures { λ r. ⌜ r ≡ estimate (now (words .entry)) x y ⌝ }
 {
     answer_of(exact_of(words, x, y))
@@ -79,6 +86,18 @@ pub fn estimate(words: &[u32], x: u32, y: u32) -> Asked
         return Asked::Estimate(0);
     }
     Asked::Estimate(estimate_of(words, x, y))
+}
+
+// The sum of the estimates of one to sixteen ranges, two words a range. The histogram is tested once. Refused with 7, 24, 8 to 12, 14, 22 or 23.
+pub fn estimate_search(words: &[u32], ranges: &[u32]) -> Asked
+    ensures { λ r. ⌜ askedReply r ≡ searchReply (now (words .entry)) (now (ranges .entry)) ⌝ }
+    ensures { λ r. ⌜ r ≡ askedOf (searchReply (now (words .entry)) (now (ranges .entry))) ⌝ }
+{
+    let fault = search_fault(words, ranges);
+    if fault != 0 {
+        return Asked::Refused(fault);
+    }
+    Asked::Estimate(sum_of(words, ranges))
 }
 
 // Writes the running totals into the first places that are lent. Refused with 7, 24, 8 to 12 or 19, it writes nothing.

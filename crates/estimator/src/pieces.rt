@@ -9,7 +9,7 @@ ghost use Rattle.counts_rules.specs.Form.{base, usedClass};
 ghost use Rattle.counts_rules.specs.Class.{classNumber};
 ghost use Rattle.counts_rules.specs.Total.{totalNumber, validCode};
 ghost use Rattle.counts.specs.Reply.{meaningReply};
-ghost use Rattle.words_rules.specs.Words.{buckets};
+ghost use Rattle.words_rules.specs.Words.{entries, buckets};
 ghost use Rattle.words_rules.specs.Decoded.{bucketAt};
 ghost use Rattle.words_rules.specs.Reading.{Readable};
 ghost use Rattle.estimate_rules.specs.Fraction.{plus, rounded, sumOf};
@@ -165,33 +165,23 @@ pub(crate) fn bucket_piece(words: &[u32], x: u32, y: u32, b: usize) -> Fraction
     bucketlets_piece(words, x, y, b)
 }
 
-// A sum and what bucket b adds to it: nothing if the range holds no entry of it.
-fn with_bucket(sum: Fraction, words: &[u32], x: u32, y: u32, b: usize) -> Fraction
-    requires { ⌜ Readable (now words) × (b < buckets (now words)) × Small (plus sum (bucketPiece (now words) x y b)) ⌝ }
-    ensures { λ r. ⌜ r ≡ plus sum (bucketPiece (now (words .entry)) x y b) ⌝ }
-{
-    let start = words::start_at(words, b);
-    let end = words::end_at(words, b);
-    if overlap_of(x, y, start, end) == 0 {
-        return sum;
-    }
-    plus(sum, bucket_piece(words, x, y, b))
-}
-
-// The sum that estimates the range, not yet rounded.
+// The sum that estimates a range that isn't empty, not yet rounded: the buckets before that of its first entry give nothing, nor do those after that
+// of its last.
 pub(crate) fn exact_of(words: &[u32], x: u32, y: u32) -> Fraction
-    requires { ⌜ Readable (now words) ⌝ }
+    requires { ⌜ Readable (now words) × (x < y) × (y ≤ entries (now words)) ⌝ }
     ensures { λ r. ⌜ r ≡ exact (now (words .entry)) x y ⌝ }
     ensures { λ r. ⌜ Small r ⌝ }
 {
-    let buckets = words::bucket_count(words) as usize;
+    let mut b = finder::bucket_of(words, x);
+    let last = finder::bucket_of(words, y - 1);
     let mut sum = Fraction {
         whole: 0,
         top: 0,
         bottom: 1,
     };
-    for b in 0..buckets {
-        sum = with_bucket(sum, words, x, y, b);
+    while b <= last {
+        sum = plus(sum, bucket_piece(words, x, y, b));
+        b += 1;
     }
     sum
 }

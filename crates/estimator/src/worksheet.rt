@@ -1,10 +1,12 @@
-// A worksheet: the ranges whose ends are the words of a list, two a range. Each costs two searches and its two cut buckets; for the buckets between
-// them there are the running totals.
+// A worksheet of ranges. Each costs two searches and its two cut buckets; for the buckets between them there are the running totals.
 
 use super::pieces::answer_of;
 use super::pieces::bucket_piece;
 use super::pieces::plus;
-use super::range_fault;
+use super::ranges::left_over;
+use super::ranges::some_refused;
+use super::ranges::x_at;
+use super::ranges::y_at;
 use super::running;
 use estimate_rules::Fraction;
 ghost use mathlib.Core.Path.{_≡_};
@@ -14,41 +16,16 @@ ghost use lib.ListN.{length, drop};
 ghost use Rattle.words_rules.specs.Words.{entries};
 ghost use Rattle.estimate_rules.specs.Exact.{exact};
 ghost use Rattle.estimate_rules.specs.Asking.{estimate};
-ghost use Rattle.estimate_rules.specs.Worksheet.{rangeCount, xAt, yAt, shortFault, rangesFault, worksheetFault, worksheetAnswers};
+ghost use Rattle.estimate_rules.specs.Ranges.{rangeCount};
+ghost use Rattle.estimate_rules.specs.Worksheet.{shortFault, rangesFault, worksheetFault, worksheetAnswers};
 ghost use Rattle.estimator.specs.Private.Adding.{Small};
 ghost use Rattle.estimator.specs.Private.Sheets.{WithTotals, Answerable};
-
-// The ends of range i of a worksheet.
-
-fn x_at(sheet: &[u32], i: usize) -> u32
-    requires { ⌜ i < rangeCount (now sheet) ⌝ }
-    ensures { λ r. ⌜ r ≡ xAt (now (sheet .entry)) i ⌝ }
-{
-    sheet[2 * i]
-}
-
-fn y_at(sheet: &[u32], i: usize) -> u32
-    requires { ⌜ i < rangeCount (now sheet) ⌝ }
-    ensures { λ r. ⌜ r ≡ yAt (now (sheet .entry)) i ⌝ }
-{
-    sheet[2 * i + 1]
-}
 
 // 21: whether a word is left over, or 14 would refuse one of the ranges.
 fn ranges_fault(words: &[u32], sheet: &[u32]) -> bool
     ensures { λ r. ⌜ r ≡ rangesFault (now (words .entry)) (now (sheet .entry)) ⌝ }
 {
-    if sheet.len() % 2 != 0 {
-        return true;
-    }
-    let mut i: usize = 0;
-    while 2 * i + 1 < sheet.len() {
-        if range_fault(words, x_at(sheet, i), y_at(sheet, i)) {
-            return true;
-        }
-        i += 1;
-    }
-    false
+    left_over(sheet) || some_refused(words, sheet)
 }
 
 // 19: whether there are too few running totals, or places for the answers.

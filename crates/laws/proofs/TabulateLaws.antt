@@ -2,12 +2,14 @@
 -- Assumes nothing.
 use mathlib.Core.Path.{_≡_, refl, sym, ap, _∙_}
 use mathlib.Core.List.{List, [], _∷_, _++_}
-use Prim.Native.Nat.{ℕ, zero, suc, _+_, _≤_, _<_}
+use Prim.Native.Nat.{ℕ, zero, suc, _+_, _*_, _≤_, _<_}
 use native.Mathlib.Numerals.{add-one}
 use native.Mathlib.Omega.{arith}
 use lib.ListN.{length, getD, set, drop}
 use lib.Seq.{drop-cons, append-snoc, set-at}
+use Rattle.laws.specs.Sums.{sum}
 use Rattle.laws.specs.Tabulate.{tabulate}
+use Rattle.laws.proofs.SumsLaws.{sum-append}
 
 tabulated : (l : List ℕ) → l ≡ tabulate (length l) (λ i. getD l i 0)
 tabulated [] = refl
@@ -29,6 +31,24 @@ getD-tabulate (suc n) f (suc i) h = getD-tabulate n (λ i. f (suc i)) i (omega a
 tabulate-suc : (n : ℕ) (f : ℕ → ℕ) → tabulate (suc n) f ≡ tabulate n f ++ (f n ∷ [])
 tabulate-suc zero f = refl
 tabulate-suc (suc n) f = ap (λ (t : List ℕ). f 0 ∷ t) (tabulate-suc n (λ i. f (suc i)))
+
+pub tabulate-same : (n : ℕ) (f g : ℕ → ℕ) → ((i : ℕ) → i < n → f i ≡ g i) → tabulate n f ≡ tabulate n g
+tabulate-same zero f g h = refl
+tabulate-same (suc n) f g h =
+    let e = h 0 (omega arith) in
+    let r = tabulate-same n (λ i. f (suc i)) (λ i. g (suc i)) (λ i l. h (suc i) (omega arith)) in
+    λ i. e i ∷ r i
+
+-- ---- sums
+
+pub sum-suc : (n : ℕ) (f : ℕ → ℕ) → sum (tabulate (suc n) f) ≡ sum (tabulate n f) + f n
+sum-suc n f = ap sum (tabulate-suc n f) ∙ sum-append (tabulate n f) (f n ∷ []) ∙ omega arith
+
+-- what bounds each element bounds the sum
+pub sums-within : (n a b c : ℕ) (f g : ℕ → ℕ) → ((i : ℕ) → i < n → a * f i ≤ b * g i + c) → a * sum (tabulate n f) ≤ b * sum (tabulate n g) + n * c
+sums-within zero a b c f g h = omega arith
+sums-within (suc n) a b c f g h =
+    omega (arith, h 0 (omega arith), sums-within n a b c (λ i. f (suc i)) (λ i. g (suc i)) (λ i l. h (suc i) (omega arith)))
 
 -- ---- a loop that writes n elements into the first places of a list
 

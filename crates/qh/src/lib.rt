@@ -21,8 +21,10 @@ ghost use Rattle.check_rules.specs.declared.Verdict.the-variants.{Fails};
 ghost use Rattle.check_rules.specs.Reply.{sortNumber, verdictReply};
 ghost use Rattle.check_rules.specs.Checking.{checkReply};
 ghost use Rattle.estimate_rules.specs.Asking.{estimateReply};
+ghost use Rattle.estimate_rules.specs.Search.{searchReply};
 ghost use Rattle.estimate_rules.specs.Running.{fillReply, totalsFilled};
 ghost use Rattle.estimate_rules.specs.Worksheet.{worksheetReply, worksheetAnswered};
+ghost use Rattle.estimator.specs.Asked.{askedReply};
 ghost use Rattle.sheet_rules.specs.Sheet.{sheet, filled};
 ghost use Rattle.qh.specs.Results.{codedOut, builtOut, estimateOut, filledOut, answeredOut, foundOut, verdictStruct};
 
@@ -188,12 +190,10 @@ pub extern "C" fn qh_check(freqs: &[u32], words: &[u32]) -> QhVerdict
     }
 }
 
-// The estimated count of the entries from x up to y, without y; refused with 7, 24, 8 to 12 or 14.
-#[no_mangle]
-pub extern "C" fn qh_estimate(words: &[u32], x: u32, y: u32) -> QhEstimate
-    ensures { λ r. ⌜ estimateOut r ≡ estimateReply (now (words .entry)) x y ⌝ }
+fn estimated(answer: Asked) -> QhEstimate
+    ensures { λ r. ⌜ estimateOut r ≡ askedReply answer ⌝ }
 {
-    match estimator::estimate(words, x, y) {
+    match answer {
         Asked::Estimate(count) => QhEstimate {
             refusal: 0,
             estimate: count,
@@ -203,6 +203,22 @@ pub extern "C" fn qh_estimate(words: &[u32], x: u32, y: u32) -> QhEstimate
             estimate: 0,
         },
     }
+}
+
+// The estimated count of the entries from x up to y, without y; refused with 7, 24, 8 to 12 or 14.
+#[no_mangle]
+pub extern "C" fn qh_estimate(words: &[u32], x: u32, y: u32) -> QhEstimate
+    ensures { λ r. ⌜ estimateOut r ≡ estimateReply (now (words .entry)) x y ⌝ }
+{
+    estimated(estimator::estimate(words, x, y))
+}
+
+// The sum of the estimates of one to sixteen ranges, two words a range; refused with 7, 24, 8 to 12, 14, 22 or 23.
+#[no_mangle]
+pub extern "C" fn qh_estimate_search(words: &[u32], ranges: &[u32]) -> QhEstimate
+    ensures { λ r. ⌜ estimateOut r ≡ searchReply (now (words .entry)) (now (ranges .entry)) ⌝ }
+{
+    estimated(estimator::estimate_search(words, ranges))
 }
 
 // Writes the running totals of a histogram into the first places that are lent and answers how many they are; refused with 7, 24, 8 to 12 or 19, it

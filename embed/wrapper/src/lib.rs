@@ -151,6 +151,24 @@ pub fn estimate(words: &[u32], x: u32, y: u32) -> Result<u64, Refusal> {
     answer(asked.refusal, asked.estimate)
 }
 
+/// The estimated count of a search of one to sixteen ranges, two numbers a range: the sum of what `estimate` answers for
+/// each. None may start before the one ahead of it ends.
+///
+/// ```
+/// use qh::{build, estimate_search, Refusal};
+/// let words = build(&[10, 10, 10, 10], 1, 3, 2)?;
+/// assert_eq!(estimate_search(&words, &[1, 3])?, 17);
+/// assert_eq!(estimate_search(&words, &[0, 1, 1, 2, 4, 4])?, 18);
+/// assert_eq!(estimate_search(&words, &[0, 5]), Err(Refusal::Range));
+/// assert_eq!(estimate_search(&words, &[]), Err(Refusal::RangeCount));
+/// assert_eq!(estimate_search(&words, &[0, 3, 2, 4]), Err(Refusal::RangeOrder));
+/// # Ok::<(), Refusal>(())
+/// ```
+pub fn estimate_search(words: &[u32], ranges: &[u32]) -> Result<u64, Refusal> {
+    let asked = unsafe { qh_estimate_search(words.as_ptr(), words.len(), ranges.as_ptr(), ranges.len()) };
+    answer(asked.refusal, asked.estimate)
+}
+
 /// The running totals of a histogram, for `answer_worksheet`: at place i the sum of the numbers that the totals of the
 /// buckets before i stand for, and one last place for all.
 ///
@@ -272,9 +290,9 @@ mod tests {
     use super::{answer, unknown};
 
     #[test]
-    #[should_panic(expected = "does not know the refusal 22 of the linked libqh.a: the two are of different versions")]
+    #[should_panic(expected = "does not know the refusal 25 of the linked libqh.a: the two are of different versions")]
     fn a_refusal_of_another_version() {
-        let _ = answer(22, ());
+        let _ = answer(25, ());
     }
 
     #[test]

@@ -59,6 +59,12 @@ extern "C" {
     ) -> QhBuilt;
     pub fn qh_check(freqs: *const u32, freqs_len: usize, words: *const u32, words_len: usize) -> QhVerdict;
     pub fn qh_estimate(words: *const u32, words_len: usize, x: u32, y: u32) -> QhEstimate;
+    pub fn qh_estimate_search(
+        words: *const u32,
+        words_len: usize,
+        ranges: *const u32,
+        ranges_len: usize,
+    ) -> QhEstimate;
     pub fn qh_fill_totals(words: *const u32, words_len: usize, out: *mut u64, out_len: usize) -> QhFilled;
     pub fn qh_answer_worksheet(
         words: *const u32,

@@ -48,6 +48,8 @@ refusals! {
     Places = 19, "The list of running totals has fewer places than the buckets plus one, or that of answers fewer than half the worksheet's length, rounded down.";
     Totals = 20, "A running total is not the sum of what the totals of the buckets before its place stand for.";
     Worksheet = 21, "The worksheet's length is odd, or in one of its ranges x is above y, or y is above d.";
+    RangeCount = 22, "The search has no range, more than sixteen, or a word left over.";
+    RangeOrder = 23, "A range of the search starts before the one ahead of it ends.";
     LargeQ = 24, "q is above 8.";
 }
 
@@ -66,7 +68,7 @@ impl Refusal {
     /// ```
     /// use qh::Refusal;
     /// assert_eq!(Refusal::from_number(14), Some(Refusal::Range));
-    /// assert_eq!([0, 2, 22, 23, 25].map(Refusal::from_number), [None; 5]);
+    /// assert_eq!([0, 2, 25].map(Refusal::from_number), [None; 3]);
     /// assert!(Refusal::ALL.iter().all(|r| Refusal::from_number(r.number()) == Some(*r)));
     /// ```
     pub fn from_number(number: u32) -> Option<Refusal> {

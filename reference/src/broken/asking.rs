@@ -113,7 +113,13 @@ impl Broken {
         }
     }
 
-    fn rounded(&self, histogram: &Histogram, x: u32, y: u32) -> u64 {
+    /// The same of a range that should perhaps have been refused: it is cut off.
+    pub(super) fn estimate_cut_off(&self, histogram: &Histogram, (x, y): (u32, u32)) -> u64 {
+        let y = y.min(histogram.head.d);
+        self.estimate_of(histogram, x.min(y), y)
+    }
+
+    pub(super) fn rounded(&self, histogram: &Histogram, x: u32, y: u32) -> u64 {
         let sum = exact(histogram, x, y);
         let bucketlets = histogram.buckets.iter().flat_map(|bucket| bucket.bucketlets());
         let mut holding_x = bucketlets.filter(|&(start, end, _)| start < x && x < end && end < y);

@@ -1,12 +1,14 @@
 //! The reference with one fault on purpose, one or more for each call: the comparison must find
 //! each of them. `FittedByExactAverage`, `WidthByHalving`, `WiderQ` and `EachCutRounded` are document
 //! 01's missteps; those about a zero, about 0 and about the 1 are missteps of request (iv), those
-//! about eight and nine, each of them in one call at a time, of request (v), and those about running
-//! totals, places, answers and worksheets of request (i).
+//! about eight and nine, each of them in one call at a time, of request (v), those about running totals,
+//! places, answers and worksheets of request (i), and those about searches, their number of ranges and
+//! their order of request (ii).
 
 mod asking;
 mod building;
 mod listing;
+mod searches;
 mod slips;
 mod worksheets;
 
@@ -47,11 +49,11 @@ faults! {
     TotalsNotChecked: "check",
     ZeroFrequencyRefusedByChecker: "check",
     JudgedWithThe1: "check",
-    EachCutRounded: "estimate" | "answer",
-    RoundedDown: "estimate" | "answer",
-    SumOf0AnsweredWith0: "estimate" | "answer",
-    EmptyRangeAnsweredWith1: "estimate" | "answer",
-    Class0EstimatedAt1: "estimate" | "answer",
+    EachCutRounded: "estimate" | "answer" | "search",
+    RoundedDown: "estimate" | "answer" | "search",
+    SumOf0AnsweredWith0: "estimate" | "answer" | "search",
+    EmptyRangeAnsweredWith1: "estimate" | "answer" | "search",
+    Class0EstimatedAt1: "estimate" | "answer" | "search",
     FoundOneLate: "find",
     Class0AtAWidthRefused: "find",
     Code0AlwaysValid: "find",
@@ -70,8 +72,8 @@ faults! {
     TotalsIn32Bits: "fill" | "answer",
     PlacesBeforeRefusal: "fill" | "answer",
     ShortBeforeTheWords: "fill" | "answer",
-    DifferenceOfTwo: "answer",
-    CutBucketsByTotal: "answer",
+    DifferenceOfTwo: "answer" | "search",
+    CutBucketsByTotal: "answer" | "search",
     OneAnswerTooMany: "answer",
     WordsCounted: "answer",
     HalfRoundedUp: "answer",
@@ -84,23 +86,56 @@ faults! {
     OneTotalTooFar: "answer",
     TotalsAfter21: "answer",
     OutsideRefusedWith14: "answer",
-    WordLeftOverTaken: "answer",
+    WordLeftOverTaken: "answer" | "search",
     EmptyWorksheetRefused: "answer",
-    LastRangeNotTested: "answer",
-    RangesBackwardsTaken: "answer",
-    RangesToTheEndRefused: "answer",
-    EightRefused: "build" | "check" | "estimate" | "find" | "fill" | "answer" | "sheet",
-    NineTaken: "build" | "check" | "estimate" | "find" | "fill" | "answer" | "sheet",
-    AboveEightTaken: "build" | "check" | "estimate" | "find" | "fill" | "answer" | "sheet",
-    AboveEightRoundedDown: "build" | "check" | "estimate" | "find" | "fill" | "answer" | "sheet",
-    AboveEightOutsideLimits: "build" | "check" | "estimate" | "find" | "fill" | "answer" | "sheet",
-    NumeratorAboveEight: "build" | "check" | "estimate" | "find" | "fill" | "answer" | "sheet",
+    LastRangeNotTested: "answer" | "search",
+    RangesBackwardsTaken: "answer" | "search",
+    RangesToTheEndRefused: "answer" | "search",
+    SearchesRefused: "search",
+    WordsAfter22: "search",
+    SixteenTested: "search",
+    WordLeftOverTested: "search",
+    OutsideRefusedWith22: "search",
+    NoRangeAnsweredWith0: "search",
+    OneRangeRefused: "search",
+    SixteenRefused: "search",
+    SeventeenTaken: "search",
+    NumberInAByte: "search",
+    EmptyRangesNotCounted: "search",
+    EmptyRangesRefused: "search",
+    AnyOrderTaken: "search",
+    TouchingRangesRefused: "search",
+    EmptyRangesAnywhere: "search",
+    EmptyRangesPassedOver: "search",
+    StartsCompared: "search",
+    EndsCompared: "search",
+    OnlyFirstTwoCompared: "search",
+    OnlyLastTwoCompared: "search",
+    OutOfOrderRefusedWith22: "search",
+    NumberBefore14: "search",
+    OrderBefore14: "search",
+    OrderBefore22: "search",
+    OutsideLast: "search",
+    OnlyFirstRange: "search",
+    OnlyLargestEstimate: "search",
+    LastRangeLeftOut: "search",
+    RangesRoundedTogether: "search",
+    One1ForAllRanges: "search",
+    TouchingRangesJoined: "search",
+    GapsCountedIn: "search",
+    SumIn32Bits: "search",
+    EightRefused: "build" | "check" | "estimate" | "find" | "fill" | "answer" | "search" | "sheet",
+    NineTaken: "build" | "check" | "estimate" | "find" | "fill" | "answer" | "search" | "sheet",
+    AboveEightTaken: "build" | "check" | "estimate" | "find" | "fill" | "answer" | "search" | "sheet",
+    AboveEightRoundedDown: "build" | "check" | "estimate" | "find" | "fill" | "answer" | "search" | "sheet",
+    AboveEightOutsideLimits: "build" | "check" | "estimate" | "find" | "fill" | "answer" | "search" | "sheet",
+    NumeratorAboveEight: "build" | "check" | "estimate" | "find" | "fill" | "answer" | "search" | "sheet",
     AboveEightBeforeTheList: "build" | "check" | "sheet",
     AboveEightBefore5: "build" | "sheet",
     AboveEightAfter6: "build",
-    AboveEightBefore7: "check" | "estimate" | "find" | "fill" | "answer",
-    AboveEightAfter8: "check" | "estimate" | "find" | "fill" | "answer",
-    AboveEightLast: "check" | "estimate" | "find" | "fill" | "answer",
+    AboveEightBefore7: "check" | "estimate" | "find" | "fill" | "answer" | "search",
+    AboveEightAfter8: "check" | "estimate" | "find" | "fill" | "answer" | "search",
+    AboveEightLast: "check" | "estimate" | "find" | "fill" | "answer" | "search",
 }
 
 const RIGHT: Reference = Reference(Way::FewerRanges);
@@ -198,6 +233,13 @@ impl Program for Broken {
         match self.call {
             "answer" => self.answered(words, totals, worksheet, lent).into(),
             _ => RIGHT.answer_worksheet(words, totals, worksheet, lent),
+        }
+    }
+
+    fn estimate_search(&self, words: &[u32], ranges: &[u32]) -> QhEstimate {
+        match self.call {
+            "search" => self.searched(words, ranges).into(),
+            _ => RIGHT.estimate_search(words, ranges),
         }
     }
 

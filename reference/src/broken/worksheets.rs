@@ -7,6 +7,7 @@ use crate::coding::{class_number, code_number};
 use crate::estimate::lies_within;
 use crate::list::running_sums;
 use crate::program::Program;
+use crate::search::MOST_RANGES;
 use crate::words::{read, Bucket, Histogram};
 use crate::worksheet::pairs;
 
@@ -66,11 +67,7 @@ impl Broken {
         let refusal = |words: &[u32]| RIGHT.answer_worksheet(words, totals, worksheet, &mut lent.to_vec()).refusal;
         let judged = self.judged_words(words, refusal);
         let histogram = self.as_read(read(&judged)?);
-        let answer = |(x, y): (u32, u32)| {
-            // Ranges that should have been refused are cut off.
-            let y = y.min(histogram.head.d);
-            self.estimate_of(&histogram, x.min(y), y)
-        };
+        let answer = |range: (u32, u32)| self.estimate_cut_off(&histogram, range);
         if let Some(refusal) = self.refusal(&histogram, totals, worksheet, lent.len()) {
             if self.fault == PlacesBeforeRefusal && refusal == 21 {
                 lent.iter_mut().zip(pairs(worksheet)).for_each(|(place, range)| *place = answer(range));
@@ -131,15 +128,21 @@ impl Broken {
     fn worksheet_misses(&self, histogram: &Histogram, worksheet: &[u32]) -> bool {
         let left_over = worksheet.len() % 2 == 1 && self.fault != WordLeftOverTaken;
         let empty = worksheet.is_empty() && self.fault == EmptyWorksheetRefused;
+        left_over || empty || self.any_misses(histogram, worksheet)
+    }
+
+    /// Whether some range does not lie within the list.
+    pub(super) fn any_misses(&self, histogram: &Histogram, ranges: &[u32]) -> bool {
         let tested = match self.fault {
-            LastRangeNotTested => (worksheet.len() / 2).saturating_sub(1),
-            _ => worksheet.len() / 2,
+            LastRangeNotTested => (ranges.len() / 2).saturating_sub(1),
+            SixteenTested => MOST_RANGES,
+            _ => ranges.len() / 2,
         };
         let misses = |(x, y): (u32, u32)| match self.fault {
             RangesBackwardsTaken => y > histogram.head.d,
             RangesToTheEndRefused => x > y || y >= histogram.head.d,
             _ => !lies_within(histogram, x, y),
         };
-        left_over || empty || pairs(worksheet).take(tested).any(misses)
+        pairs(ranges).take(tested).any(misses)
     }
 }

@@ -2,12 +2,13 @@
 
 use super::{Comparison, Group};
 use crate::build::{histogram, Way};
+use crate::generate::searches::Search;
 use crate::generate::worksheets::Worksheet;
 use crate::list::Bound;
 use crate::program::*;
 use crate::words::{write, HEADS, PER_BUCKET};
 use crate::worksheet::pairs;
-use std::fmt::Debug;
+use std::fmt::{Debug, Display};
 
 const REFERENCE: Reference = Reference(Way::FewerRanges);
 
@@ -30,7 +31,7 @@ fn shortened(text: String) -> String {
 }
 
 /// A list with runs drawn together.
-pub(super) fn shown(list: &[u32]) -> String {
+pub(super) fn shown<T: PartialEq + Display>(list: &[T]) -> String {
     let runs = list.chunk_by(|a, b| a == b);
     let runs: Vec<String> = runs
         .map(|run| match run.len() {
@@ -76,6 +77,19 @@ pub(super) fn sheet_contents() -> Vec<u8> {
 
 fn lent_bytes(bytes: &mut [u8]) -> &mut Sheet {
     bytes.first_chunk_mut().expect("enough bytes are lent")
+}
+
+/// The sum of what the single call answers, or its first refusal.
+fn one_by_one(program: &dyn Program, words: &[u32], ranges: &[u32]) -> QhEstimate {
+    let mut sum = QhEstimate::default();
+    for (x, y) in pairs(ranges) {
+        let QhEstimate { refusal, estimate } = program.estimate(words, x, y);
+        if refusal > 0 {
+            return Err(refusal).into();
+        }
+        sum.estimate += estimate;
+    }
+    sum
 }
 
 impl Comparison<'_> {
@@ -183,6 +197,25 @@ impl Comparison<'_> {
         self.counts.answers += answers as u64;
         for (range, &estimate) in pairs(ranges).zip(&estimates[..answers]) {
             self.estimate_as(Group::EstimateWorksheets, words, range, Ok(estimate).into());
+        }
+    }
+
+    /// Compares a search, then its answer, or 14, with what the single calls give for its ranges.
+    pub(super) fn search(&mut self, group: Group, search: &Search) {
+        let Search { words, ranges } = search;
+        let expected = REFERENCE.estimate_search(words, ranges);
+        let got = self.program.estimate_search(words, ranges);
+        let input = || format!("{} by {}", shown(ranges), hexadecimal(words));
+        let differs = expected != got;
+        self.note(group, differs.then(|| mismatch(&input(), expected, got)));
+        self.counts.searches += 1;
+        if expected.refusal == 0 {
+            self.counts.summed += ranges.len() as u64 / 2;
+        }
+        if matches!(expected.refusal, 0 | 14) {
+            let alone = one_by_one(self.program, words, ranges);
+            let differs = expected != alone;
+            self.note(Group::EstimateSearches, differs.then(|| mismatch(&input(), expected, alone)));
         }
     }
 

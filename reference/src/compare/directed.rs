@@ -1,4 +1,4 @@
-//! Lists aimed at demand 3's bound.
+//! Lists aimed at the bound of the accuracy rule, for one range and for several.
 
 use super::Comparison;
 use super::Group::*;
@@ -6,7 +6,11 @@ use crate::demand::{KS, SIDES};
 use crate::generate::directed::{directed, jostled, known, Directed};
 use crate::generate::ranges::some_ranges;
 use crate::generate::Random;
+use crate::search::MOST_RANGES;
 use crate::words::write;
+
+/// The most lists that are made for one number of ranges, k and side.
+const MOST_TRIES: usize = 300;
 
 impl Comparison<'_> {
     pub(super) fn directed_lists(&mut self) {
@@ -14,20 +18,35 @@ impl Comparison<'_> {
         for directed in known() {
             self.directed_list(&mut random, &directed);
         }
-        for (k, side) in KS.iter().flat_map(|&k| SIDES.map(|side| (k, side))) {
-            let mut made = 0;
-            while made < self.volume.directed {
-                // Not every choice of numbers gives a list within the limits.
-                let Some(directed) = directed(&mut random, side, k) else {
-                    continue;
-                };
-                made += 1;
+        let aims = || (0..KS.len()).flat_map(|place| SIDES.map(|side| (place, side)));
+        for (place, side) in aims() {
+            for _ in 0..self.volume.directed {
+                let directed = directed(&mut random, side, 1, KS[place]);
                 self.directed_list(&mut random, &directed);
                 let other = jostled(&mut random, &directed);
                 self.directed_list(&mut random, &other);
             }
         }
-        self.near_enough();
+        for (place, side) in aims() {
+            self.near_enough(DemandNear, 1, place, side);
+        }
+        self.lists_directed_at_several();
+    }
+
+    /// For each number of ranges and each k, lists are made until one comes near enough.
+    fn lists_directed_at_several(&mut self) {
+        let mut random = self.random(16);
+        // A test makes do with the first k.
+        let places = KS.len().min(self.volume.directed / 10);
+        let aims = (2..=MOST_RANGES).flat_map(|ranges| (0..places).map(move |place| (ranges, place)));
+        for ((ranges, place), side) in aims.flat_map(|aim| SIDES.map(|side| (aim, side))) {
+            let mut tries = 0..MOST_TRIES;
+            while !self.near(ranges, place, side) && tries.next().is_some() {
+                let directed = directed(&mut random, side, ranges as u64, KS[place]);
+                self.directed_list(&mut random, &directed);
+            }
+            self.near_enough(SumsNear, ranges, place, side);
+        }
     }
 
     fn directed_list(&mut self, random: &mut Random, directed: &Directed) {
@@ -44,7 +63,7 @@ impl Comparison<'_> {
             self.estimate(EstimateDirected, &words, range);
         }
         if self.check(CheckDirected, frequencies, &words) {
-            self.demand_three(DemandDirected, frequencies, &words, ranges);
+            self.demand_three((DemandDirected, SumsDirected), frequencies, &words, ranges);
         }
     }
 }

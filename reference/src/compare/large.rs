@@ -13,9 +13,11 @@ use crate::generate::Random;
 use crate::list::{count, Bound, COUNT_LIMIT, MOST_THETA};
 use crate::words::{write, Bucket, Histogram};
 
-const LARGE: Asking = Asking { check: CheckLarge, estimate: EstimateLarge, find: FindLarge, demand: DemandLarge };
+const LARGE: Asking =
+    Asking { check: CheckLarge, estimate: EstimateLarge, find: FindLarge, demand: (DemandLarge, SumsLarge) };
 
-const REAL: Asking = Asking { check: CheckReal, estimate: EstimateReal, find: FindReal, demand: DemandReal };
+const REAL: Asking =
+    Asking { check: CheckReal, estimate: EstimateReal, find: FindReal, demand: (DemandReal, SumsReal) };
 
 pub(super) const REAL_BOUNDS: [Bound; 5] = [
     Bound::new(1, 5, 4),
@@ -187,7 +189,7 @@ impl Comparison<'_> {
             self.estimate(EstimateLarge, &words, range);
         }
         if self.check(CheckLarge, &frequencies, &words) {
-            self.demand_three(DemandLarge, &frequencies, &words, all_ranges(8));
+            self.demand_three(LARGE.demand, &frequencies, &words, all_ranges(8));
         } else {
             self.fail(CheckLarge, "estimates past 32 bits are not accepted");
         }
@@ -227,8 +229,10 @@ impl Comparison<'_> {
         for range in cuts {
             self.estimate(EstimateLarge, &words, range);
         }
-        for level in [1, 131_071] {
-            self.check(CheckLarge, &[level; 8_190], &words);
+        self.check(CheckLarge, &[1; 8_190], &words);
+        if self.volume.wide > 0 {
+            // Accepted, so that every range is tried.
+            self.check(CheckLarge, &[131_071; 8_190], &words);
         }
         let long = vec![0; 1_000_000];
         self.build(BuildLarge, Way::FewerRanges, &long, bound, 9);

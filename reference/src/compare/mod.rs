@@ -5,17 +5,17 @@ mod coding;
 mod directed;
 mod factors;
 mod large;
+mod searches;
 mod sheets;
 mod slips;
 mod small;
 mod worksheets;
 mod zeros;
 
-use crate::demand::KS;
 use crate::generate::slips::LAST_QD;
 use crate::generate::Random;
 use crate::program::Program;
-use factors::Largest;
+use factors::{no_largests, Largests};
 use std::io::Write;
 use std::time::Instant;
 
@@ -62,6 +62,7 @@ groups! {
     EstimateZeros: "estimate: lists with zeros, and class 0",
     EstimateSlips: "estimate: q about 8",
     EstimateWorksheets: "estimate: each range of a worksheet",
+    EstimateSearches: "estimate: the ranges of a search one by one",
     FindSmall: "find: built and foreign histograms",
     FindDamaged: "find: damaged words",
     FindRandom: "find: random words",
@@ -89,6 +90,20 @@ groups! {
     AnswerOutside: "answer: a word left over, and ranges outside",
     AnswerTwoFaults: "answer: two faults at once",
     AnswerSlips: "answer: q about 8",
+    SearchBuilt: "search: built histograms",
+    SearchForeign: "search: foreign histograms",
+    SearchDamaged: "search: damaged words",
+    SearchRandom: "search: random words",
+    SearchLarge: "search: wide and large lists",
+    SearchReal: "search: real lists",
+    SearchZeros: "search: lists with zeros, and class 0",
+    SearchDirected: "search: directed lists",
+    SearchShort: "search: all of a few words",
+    SearchOutside: "search: ranges outside",
+    SearchNumber: "search: no range, too many, and a word left over",
+    SearchOrder: "search: ranges out of order",
+    SearchTwoFaults: "search: two faults at once",
+    SearchSlips: "search: q about 8",
     SheetGood: "sheet: good input",
     SheetDamaged: "sheet: damaged input",
     SheetSlips: "sheet: q about 8",
@@ -101,6 +116,15 @@ groups! {
     DemandZeros: "demand 3: lists with zeros",
     DemandSlips: "demand 3: q about 8",
     DemandNear: "demand 3: directed lists tell k - 2 from k - 1",
+    SumsBuilt: "demand 3 for r ranges: built histograms",
+    SumsForeign: "demand 3 for r ranges: foreign histograms",
+    SumsDirected: "demand 3 for r ranges: directed lists",
+    SumsLarge: "demand 3 for r ranges: wide and large lists",
+    SumsReal: "demand 3 for r ranges: real lists",
+    SumsZeros: "demand 3 for r ranges: lists with zeros",
+    SumsSlips: "demand 3 for r ranges: q about 8",
+    SumsSearches: "demand 3 for r ranges: the ranges of a search",
+    SumsNear: "demand 3 for r ranges: directed lists tell k - 2r from k - 2r + 1",
 }
 
 /// The groups that one kind of histogram is asked in.
@@ -109,7 +133,8 @@ struct Asking {
     check: Group,
     estimate: Group,
     find: Group,
-    demand: Group,
+    /// Of one range, and of several.
+    demand: (Group, Group),
 }
 
 /// How much is compared.
@@ -155,7 +180,10 @@ struct Counts {
     estimates: u64,
     worksheets: u64,
     answers: u64,
+    searches: u64,
+    summed: u64,
     ranges: u64,
+    sums: u64,
     mismatches: u64,
 }
 
@@ -171,8 +199,7 @@ pub struct Comparison<'a> {
     seed: u64,
     real: Vec<Vec<u32>>,
     counts: Counts,
-    /// For each k and side of demand 3.
-    largest: Vec<[Option<Largest>; 2]>,
+    largest: Largests,
     tallies: Vec<Tally>,
     /// What the bytes lent for a sheet hold before the call.
     sheet_contents: Vec<u8>,
@@ -196,7 +223,7 @@ impl<'a> Comparison<'a> {
             seed,
             real,
             counts: Counts::default(),
-            largest: vec![[None, None]; KS.len()],
+            largest: no_largests(),
             tallies: vec![Tally::default(); GROUPS.len()],
             sheet_contents: calls::sheet_contents(),
             out,
@@ -218,6 +245,7 @@ impl<'a> Comparison<'a> {
         self.part("random words", Comparison::random_words);
         self.part("directed lists", Comparison::directed_lists);
         self.part("worksheets", Comparison::worksheets);
+        self.part("searches", Comparison::searches);
         self.part("sheets", Comparison::sheets);
         self.show_largest();
         self.report()
@@ -277,11 +305,12 @@ impl<'a> Comparison<'a> {
 
     fn show_counts(&mut self) {
         let Counts { lists, built, foreign, damaged, random, .. } = self.counts;
-        let Counts { accepted, estimates, worksheets, answers, ranges, mismatches, .. } = self.counts;
+        let Counts { accepted, estimates, ranges, sums, mismatches, .. } = self.counts;
+        let Counts { worksheets, answers, searches, summed, .. } = self.counts;
         self.show(&format!("{lists} lists"));
         self.show(&format!("histograms: {built} built, {foreign} foreign, {damaged} damaged, {random} random"));
-        self.show(&format!("{estimates} estimates, {accepted} accepted pairs with {ranges} ranges"));
-        self.show(&format!("{worksheets} worksheets with {answers} answers"));
+        self.show(&format!("{estimates} estimates, {accepted} accepted pairs with {ranges} ranges and {sums} sums"));
+        self.show(&format!("{worksheets} worksheets with {answers} answers, {searches} searches with {summed} summed"));
         self.show(&format!("{mismatches} mismatches, seed {}", self.seed));
     }
 }

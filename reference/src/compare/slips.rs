@@ -95,7 +95,7 @@ impl Comparison<'_> {
     fn ask_slips(&mut self, frequencies: &[u32], words: &[u32]) {
         let d = frequencies.len() as u32;
         if self.check(CheckSlips, frequencies, words) {
-            self.demand_three(DemandSlips, frequencies, words, all_ranges(d));
+            self.demand_three((DemandSlips, SumsSlips), frequencies, words, all_ranges(d));
         }
         let longer = [frequencies, &[1]].concat();
         for other in [&longer[..], &[], &[COUNT_LIMIT, 1]] {
@@ -108,6 +108,7 @@ impl Comparison<'_> {
             self.find(FindSlips, words, entry);
         }
         self.worksheet_slips(words, d);
+        self.search_slips(words, d);
     }
 
     /// A histogram of a short list as it is, and with each fault.

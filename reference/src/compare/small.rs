@@ -12,10 +12,11 @@ use crate::generate::Random;
 use crate::list::{Bound, COUNT_LIMIT};
 use crate::words::write;
 
-const BUILT: Asking = Asking { check: CheckBuilt, estimate: EstimateBuilt, find: FindSmall, demand: DemandBuilt };
+const BUILT: Asking =
+    Asking { check: CheckBuilt, estimate: EstimateBuilt, find: FindSmall, demand: (DemandBuilt, SumsBuilt) };
 
 const FOREIGN: Asking =
-    Asking { check: CheckForeign, estimate: EstimateForeign, find: FindSmall, demand: DemandForeign };
+    Asking { check: CheckForeign, estimate: EstimateForeign, find: FindSmall, demand: (DemandForeign, SumsForeign) };
 
 impl Comparison<'_> {
     pub(super) fn small_lists(&mut self) {

@@ -29,7 +29,12 @@ impl Comparison<'_> {
         }
     }
 
-    fn built_and_foreign(&mut self, random: &mut Random, frequencies: &[u32], bound: Bound) -> [Vec<u32>; 2] {
+    pub(super) fn built_and_foreign(
+        &mut self,
+        random: &mut Random,
+        frequencies: &[u32],
+        bound: Bound,
+    ) -> [Vec<u32>; 2] {
         self.counts.lists += 1;
         self.counts.built += 1;
         self.counts.foreign += 1;
@@ -56,12 +61,17 @@ impl Comparison<'_> {
         }
     }
 
-    fn worksheets_of_large_lists(&mut self, random: &mut Random) {
-        let groups = (FillLarge, AnswerLarge);
+    /// Wide lists, long ones, and one with the most buckets.
+    pub(super) fn some_large_lists(&self, random: &mut Random) -> Vec<Vec<u32>> {
         let mut lists: Vec<Vec<u32>> = (0..self.volume.wide / 4).map(|_| wide_list(random)).collect();
         lists.extend(KINDS.map(|kind| list(random, kind, self.volume.longest / 3)));
         lists.push(most_buckets(self.volume.longest));
-        for frequencies in lists {
+        lists
+    }
+
+    fn worksheets_of_large_lists(&mut self, random: &mut Random) {
+        let groups = (FillLarge, AnswerLarge);
+        for frequencies in self.some_large_lists(random) {
             let bound = bound(random, &frequencies);
             self.worksheets_of(random, groups, &frequencies, bound);
         }

@@ -8,7 +8,8 @@ use crate::generate::ranges::all_ranges;
 use crate::list::{count, Bound, COUNT_LIMIT, MOST_THETA};
 use crate::words::{write, Histogram};
 
-const ZEROS: Asking = Asking { check: CheckZeros, estimate: EstimateZeros, find: FindSmall, demand: DemandZeros };
+const ZEROS: Asking =
+    Asking { check: CheckZeros, estimate: EstimateZeros, find: FindSmall, demand: (DemandZeros, SumsZeros) };
 
 /// Zeros by themselves, at either end of a bucketlet and inside it, and bucketlets of zeros between others; the last
 /// two are there for class 0 alone.
@@ -104,7 +105,7 @@ impl Comparison<'_> {
         let d = words[0];
         for frequencies in lists {
             if self.check(CheckZeros, &frequencies, words) {
-                self.demand_three(DemandZeros, &frequencies, words, all_ranges(d));
+                self.demand_three(ZEROS.demand, &frequencies, words, all_ranges(d));
             }
         }
         for range in all_ranges(d) {

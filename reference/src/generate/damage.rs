@@ -1,6 +1,7 @@
 //! Word lists with faults, most of them one field away from a good one, and random ones.
 
 use super::foreign::codes;
+use super::slips::with_q;
 use super::Random;
 use crate::list::{MOST_ENTRIES, MOST_THETA};
 use crate::words::{HEADS, KINDS, PER_BUCKET};
@@ -43,6 +44,16 @@ pub const WORD_FAULTS: [WordFault; 21] = [
     |words| words[5] |= 63 << 24,
     |words| words[6] |= 31,
 ];
+
+/// A histogram with each of these faults, and one that 24 refuses.
+pub fn faulty_words(words: &[u32]) -> impl Iterator<Item = Vec<u32>> + '_ {
+    let faulty = WORD_FAULTS.iter().map(|fault| {
+        let mut words = words.to_vec();
+        fault(&mut words);
+        words
+    });
+    faulty.chain([with_q(words, (9, 1))])
+}
 
 /// A word list with each bit changed by itself, then each shorter one.
 pub fn every_change(words: &[u32]) -> impl Iterator<Item = Vec<u32>> + '_ {

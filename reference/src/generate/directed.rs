@@ -1,4 +1,4 @@
-//! Lists aimed at demand 3's bound, with histograms of their own. Undirected lists never come
+//! Lists aimed at the accuracy rule's bound, with histograms of their own. Undirected lists never come
 //! near it: both cuts must be excused by theta, nearly all of their count (or estimate) must
 //! lie in the range, and what lies between them must be at the edge of q.
 
@@ -6,7 +6,7 @@ use super::foreign::{classes_within, codes};
 use super::lists::any_q;
 use super::Random;
 use crate::coding::{class_in_use, class_number, code_for, code_number, LAST_CLASS};
-use crate::demand::Side;
+use crate::demand::{k_of, Side};
 use crate::list::{count, Bound, COUNT_LIMIT, MOST_THETA};
 use crate::words::{Bucket, Histogram, WIDEST_FREE, WIDEST_LISTED};
 
@@ -141,18 +141,25 @@ fn assemble(cuts: [&Cut; 2], middles: &[Middle], bound: Bound, apart: bool) -> O
     Some(Directed { frequencies, histogram: Histogram::new(bound, buckets), x, y })
 }
 
-/// One list aimed at k, by chance near the bound or nearer.
-pub fn directed(random: &mut Random, side: Side, k: u32) -> Option<Directed> {
-    let q = if random.chance(1, 3) { (5, 4) } else { any_q(random) };
-    let apart = random.chance(1, 2);
-    match side {
-        Side::Count => aimed_at_count(random, k.into(), q, apart),
-        Side::Estimate => aimed_at_estimate(random, k.into(), q, apart),
+/// One list aimed at a k of so many ranges, each of them the range that is aimed at, by chance near the bound or nearer.
+pub fn directed(random: &mut Random, side: Side, ranges: u64, k: u32) -> Directed {
+    let k = k_of(ranges, k);
+    loop {
+        let q = if random.chance(1, 3) { (5, 4) } else { any_q(random) };
+        let apart = random.chance(1, 2);
+        let aimed = match side {
+            Side::Count => aimed_at_count(random, ranges, k, q, apart),
+            Side::Estimate => aimed_at_estimate(random, ranges, k, q, apart),
+        };
+        // Not every choice of numbers gives a list within the limits.
+        if let Some(directed) = aimed {
+            return directed;
+        }
     }
 }
 
-/// The entry in the middle decides theta: the count of the range must come above k theta.
-fn aimed_at_count(random: &mut Random, k: u64, q: (u32, u32), apart: bool) -> Option<Directed> {
+/// The entry in the middle decides theta: the count of the ranges must come above k theta.
+fn aimed_at_count(random: &mut Random, ranges: u64, k: u64, q: (u32, u32), apart: bool) -> Option<Directed> {
     let top = (u64::from(COUNT_LIMIT) / k).min(k * u64::from(MOST_THETA)) / 2;
     let aim = random.any_size(top);
     let middle = middle_near(Side::Count, aim, apart, Bound::new(1, q.0, q.1))?;
@@ -161,7 +168,8 @@ fn aimed_at_count(random: &mut Random, k: u64, q: (u32, u32), apart: bool) -> Op
     let v = random.pick(&[w, other]);
     let wider = random.chance(1, 2);
     let filler = if wider { 1 } else { random.below(2) };
-    let theta = (u64::from(middle.frequency) - 1).checked_sub(filler * (w + v - 2))? / (k - 2);
+    let beside_cuts = (ranges * u64::from(middle.frequency)).checked_sub(ranges * filler * (w + v - 2) + 1)?;
+    let theta = beside_cuts / (k - 2 * ranges);
     let bound = Bound::new(theta.try_into().ok()?, q.0, q.1);
     if !bound.theta_within_limits() {
         return None;
@@ -175,7 +183,7 @@ fn aimed_at_count(random: &mut Random, k: u64, q: (u32, u32), apart: bool) -> Op
 }
 
 /// The cuts' class decides theta, and theta the entry in the middle.
-fn aimed_at_estimate(random: &mut Random, k: u64, q: (u32, u32), apart: bool) -> Option<Directed> {
+fn aimed_at_estimate(random: &mut Random, ranges: u64, k: u64, q: (u32, u32), apart: bool) -> Option<Directed> {
     let class = random.between(8, 50) as u32;
     let s = u64::from(class_number(class));
     let n = u64::from(q.1.div_ceil(q.0 - q.1)) + random.below(3);
@@ -185,7 +193,7 @@ fn aimed_at_estimate(random: &mut Random, k: u64, q: (u32, u32), apart: bool) ->
         return None;
     }
     let cut = spike_outside(bound, n, class, random.below(2) as u32)?;
-    let aim = k * theta - 2 * (n * s) / (n + 1);
+    let aim = (k * theta).div_ceil(ranges) - 2 * (n * s) / (n + 1);
     let middle = middle_near(Side::Estimate, aim, apart, bound)?;
     assemble([&cut, &cut], &[middle], bound, apart)
 }
@@ -221,6 +229,44 @@ pub fn known() -> Vec<Directed> {
         assemble([&cut, &cut], &middles, bound, true)
     };
     KNOWN.into_iter().filter_map(assembled).collect()
+}
+
+/// A list, a histogram for it, and the ranges of the search that is aimed at.
+#[derive(Clone, Debug)]
+pub struct DirectedSearch {
+    pub frequencies: Vec<u32>,
+    pub histogram: Histogram,
+    pub ranges: Vec<(u32, u32)>,
+}
+
+/// A directed list so many times over, with its range in each.
+pub fn repeated(directed: &Directed, times: u32) -> DirectedSearch {
+    let Directed { frequencies, histogram, x, y } = directed;
+    let starts = || (0..times).map(|turn| turn * histogram.head.d);
+    let moved = |by: u32| histogram.buckets.iter().map(move |bucket| Bucket { start: by + bucket.start, ..*bucket });
+    DirectedSearch {
+        frequencies: frequencies.repeat(times as usize),
+        histogram: Histogram::new(histogram.head.bound, starts().flat_map(moved).collect()),
+        ranges: starts().map(|start| (start + x, start + y)).collect(),
+    }
+}
+
+/// Eight 1s, 90, 116, 90 and eight 1s so many times over, two of them in a bucket, and the three in the middle of each.
+/// Each of those counts 296 and is estimated at 114.
+pub fn spikes(times: u32) -> DirectedSearch {
+    let once = [&[1; 8][..], &[90, 116, 90], &[1; 8]].concat();
+    let d = once.len() as u32;
+    let two = |first: u32| {
+        let number = 2.min(times - first) as usize;
+        let total = number as u64 * count(&once);
+        bucket(first * d, &[(9, 14), (1, 14), (9, 14)].repeat(number), true, code_for(total))
+    };
+    let buckets = (0..times).step_by(2).map(two).collect();
+    DirectedSearch {
+        histogram: Histogram::new(Bound::new(98, 5, 4), buckets),
+        ranges: (0..times).map(|turn| (turn * d + 8, turn * d + 11)).collect(),
+        frequencies: once.repeat(times as usize),
+    }
 }
 
 /// A small change, with which the pair may or may not be accepted still.

@@ -6,6 +6,7 @@ pub mod directed;
 pub mod foreign;
 pub mod lists;
 pub mod ranges;
+pub mod searches;
 pub mod slips;
 pub mod worksheets;
 

@@ -1,8 +1,7 @@
 //! Worksheets with what they are answered by, good ones and such as are refused.
 
-use super::damage::WORD_FAULTS;
+use super::damage::faulty_words;
 use super::ranges::ranges_outside;
-use super::slips::with_q;
 use super::Random;
 use crate::words::read;
 use crate::worksheet::running_totals;
@@ -55,9 +54,7 @@ impl Worksheet {
 
     /// What 7, 24 and 8 to 12 name.
     fn of_other_words(&self) -> Vec<Worksheet> {
-        let mut all = Vec::from(WORD_FAULTS.map(|fault| self.changed(|worksheet| fault(&mut worksheet.words))));
-        all.push(self.changed(|worksheet| worksheet.words = with_q(&worksheet.words, (9, 1))));
-        all
+        faulty_words(&self.words).map(|words| Worksheet { words, ..self.clone() }).collect()
     }
 
     /// What 19 names.

@@ -7,7 +7,7 @@ use borrow.Author.Needs.{needs}
 use Rattle.laws.specs.Reply.{answered, refused}
 use Rattle.laws.proofs.ReplyLaws.{answered-case, refused-case}
 use Rattle.estimate_rules.specs.Asking.{askFault, estimate}
-use Rattle.estimate_rules.proofs.AskingLaws.{asked-readable, reply-refused, reply-answered}
+use Rattle.estimate_rules.proofs.AskingLaws.{asked-readable, asked-within, reply-refused, reply-answered}
 use Rattle.estimate_rules.proofs.Proved.{none}
 use Rattle.estimator.specs.declared.Asked.the-variants.{Estimate, Refused}
 use Rattle.estimator.proofs.estimate.Statement.{statement}
@@ -36,7 +36,8 @@ returns-2 c =
 estimate-of-requires : tie.Need-estimate-of-requires
 estimate-of-requires c κs =
     let a = c .before .before .before .before .args in
-    (asked-readable (a .words .now) (a .x) (a .y) (asked (c .before)), λ e. omega arith)
+    let within = asked-within (a .words .now) (a .x) (a .y) (asked (c .before)) in
+    (asked-readable (a .words .now) (a .x) (a .y) (asked (c .before)), omega (arith, within .0), within .1)
 
 returns-3 : tie.Need-returns-3
 returns-3 c =

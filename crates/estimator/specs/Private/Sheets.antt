@@ -6,8 +6,9 @@ use mathlib.Core.List.{List}
 use Prim.Native.Nat.{ℕ, _≤_}
 use lib.ListN.{length}
 use Rattle.words_rules.specs.Reading.{Readable}
+use Rattle.estimate_rules.specs.Ranges.{rangeCount, someRefused}
 use Rattle.estimate_rules.specs.Running.{totalPlaces}
-use Rattle.estimate_rules.specs.Worksheet.{rangeCount, totalsFault, rangesFault}
+use Rattle.estimate_rules.specs.Worksheet.{totalsFault}
 
 -- a histogram and its running totals
 pub record WithTotals (ws totals : List ℕ) : Type 0 where
@@ -18,5 +19,5 @@ pub record WithTotals (ws totals : List ℕ) : Type 0 where
 -- these and a worksheet that is answered, with room for its answers
 pub record Answerable (ws totals sheet : List ℕ) (lent : ℕ) : Type 0 where
   pub with-totals : WithTotals ws totals
-  pub in-list : rangesFault ws sheet ≡ false
+  pub in-list : someRefused ws sheet ≡ false
   pub room : rangeCount sheet ≤ lent

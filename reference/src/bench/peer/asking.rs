@@ -1,8 +1,8 @@
-//! The estimator: one pass over the words in 64 bits, rounded up once, and at least 1; and worksheets, where the running
-//! totals stand for the buckets between the ends of a range.
+//! The estimator: one pass over the words that a range meets in 64 bits, rounded up once, and at least 1; searches, which
+//! add up such estimates; and worksheets, where the running totals stand for the buckets between the ends of a range.
 
 use super::coding::{class_number, code_number};
-use super::reading::{bucket_of, decode, read, start_of, total_of, with_ends, Five};
+use super::reading::{bucket_of, decode, read, start_of, total_of, Five};
 use crate::words::Bucket;
 
 /// Whole parts beside top / bottom: a range cuts at most two bucketlets, so 64 bits hold each.
@@ -54,22 +54,48 @@ fn add_bucket(sum: &mut Sum, five: &Five, end: u32, x: u32, y: u32) {
     }
 }
 
+/// Where a bucket ends.
+#[inline]
+fn end_of(d: u32, fives: &[Five], bucket: usize) -> u32 {
+    fives.get(bucket + 1).map_or(d, start_of)
+}
+
+/// The estimate of a range within the list.
+#[inline]
+fn estimate_within(d: u32, fives: &[Five], x: u32, y: u32) -> u64 {
+    if x == y {
+        return 0;
+    }
+    let mut sum = Sum { whole: 0, top: 0, bottom: 1 };
+    for bucket in bucket_of(fives, x)..=bucket_of(fives, y - 1) {
+        add_bucket(&mut sum, &fives[bucket], end_of(d, fives, bucket), x, y);
+    }
+    sum.rounded()
+}
+
 /// The refusals of reading, then 14.
 pub fn estimate(words: &[u32], x: u32, y: u32) -> Result<u64, u32> {
     let (head, fives) = read(words)?;
     if x > y || y > head.d {
         return Err(14);
     }
-    if x == y {
-        return Ok(0);
+    Ok(estimate_within(head.d, fives, x, y))
+}
+
+/// The refusals of reading, then 14, 22 and 23.
+pub fn estimate_search(words: &[u32], ranges: &[u32]) -> Result<u64, u32> {
+    let (head, fives) = read(words)?;
+    let (ranges, rest) = ranges.as_chunks::<2>();
+    if ranges.iter().any(|&[x, y]| x > y || y > head.d) {
+        return Err(14);
     }
-    let mut sum = Sum { whole: 0, top: 0, bottom: 1 };
-    for (five, end) in with_ends(fives, head.d) {
-        if x.max(start_of(five)) < y.min(end) {
-            add_bucket(&mut sum, five, end, x, y);
-        }
+    if ranges.is_empty() || ranges.len() > 16 || !rest.is_empty() {
+        return Err(22);
     }
-    Ok(sum.rounded())
+    if ranges.windows(2).any(|pair| pair[1][0] < pair[0][1]) {
+        return Err(23);
+    }
+    Ok(ranges.iter().map(|&[x, y]| estimate_within(head.d, fives, x, y)).sum())
 }
 
 /// The refusals of reading, then 19.
@@ -105,13 +131,12 @@ fn estimate_by(d: u32, fives: &[Five], totals: &[u64], x: u32, y: u32) -> u64 {
     if x == y {
         return 0;
     }
-    let end = |bucket: usize| fives.get(bucket + 1).map_or(d, start_of);
     let (first, last) = (bucket_of(fives, x), bucket_of(fives, y - 1));
     let mut sum = Sum { whole: 0, top: 0, bottom: 1 };
-    add_bucket(&mut sum, &fives[first], end(first), x, y);
+    add_bucket(&mut sum, &fives[first], end_of(d, fives, first), x, y);
     if first < last {
         sum.whole += totals[last] - totals[first + 1];
-        add_bucket(&mut sum, &fives[last], end(last), x, y);
+        add_bucket(&mut sum, &fives[last], end_of(d, fives, last), x, y);
     }
     sum.rounded()
 }

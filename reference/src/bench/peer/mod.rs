@@ -63,6 +63,10 @@ impl Program for Peer {
         asking::estimate(words, x, y).into()
     }
 
+    fn estimate_search(&self, words: &[u32], ranges: &[u32]) -> QhEstimate {
+        asking::estimate_search(words, ranges).into()
+    }
+
     fn find(&self, words: &[u32], entry: u32) -> QhFound {
         reading::find(words, entry).into()
     }

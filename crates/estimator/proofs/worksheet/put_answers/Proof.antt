@@ -7,8 +7,9 @@ use borrow.Author.Needs.{needs}
 use lib.ListN.{length, length-set}
 use Rattle.laws.proofs.TabulateLaws.{Written, none-written, one-written, all-written}
 use Rattle.estimate_rules.specs.Asking.{estimate}
-use Rattle.estimate_rules.specs.Worksheet.{rangeCount, answerAt}
-use Rattle.estimate_rules.proofs.WorksheetLaws.{range-ordered, range-within}
+use Rattle.estimate_rules.specs.Ranges.{rangeCount}
+use Rattle.estimate_rules.specs.Worksheet.{answerAt}
+use Rattle.estimate_rules.proofs.RangesLaws.{range-ordered, range-within}
 use Rattle.estimator.proofs.worksheet.put_answers.Statement.{statement}
 use Rattle.estimator.proofs.worksheet.put_answers.Tie as tie
 

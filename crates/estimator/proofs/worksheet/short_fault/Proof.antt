@@ -5,7 +5,8 @@ use mathlib.Core.Bool.{Bool, _||_}
 use borrow.Author.Needs.{needs}
 use lib.Dec.{ltb}
 use Rattle.laws.proofs.Tests.{holds-left}
-use Rattle.estimate_rules.specs.Worksheet.{rangeCount, shortFault}
+use Rattle.estimate_rules.specs.Ranges.{rangeCount}
+use Rattle.estimate_rules.specs.Worksheet.{shortFault}
 use Rattle.estimator.proofs.worksheet.short_fault.Statement.{statement}
 use Rattle.estimator.proofs.worksheet.short_fault.Tie as tie
 
