@@ -1,5 +1,5 @@
-/* Builds the histogram of a list of four entries, checks it, estimates three ranges, one by one and as a worksheet, and a
- * search of two, and finds a bucket. */
+/* Builds the histogram of a list of four entries, checks it, estimates three ranges, one by one and as a worksheet, and
+ * a search of two, and finds a bucket. */
 #include <inttypes.h>
 #include <qh.h>
 #include <stdio.h>

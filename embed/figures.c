@@ -181,8 +181,10 @@ static void searches(void) {
     estimated("0 to 2 and 2 to 4", qh_estimate_search(LIST(tens), LIST(touching)), (QhEstimate){.estimate = 34});
     estimated("each of tens", qh_estimate_search(LIST(tens), LIST(each)), (QhEstimate){.estimate = 36});
     estimated("over three buckets", qh_estimate_search(LIST(three), LIST(over)), (QhEstimate){.estimate = 102});
-    estimated("0 to 5 and a word", qh_estimate_search(LIST(tens), LIST(broken)), (QhEstimate){.refusal = QH_REFUSED_RANGE});
-    estimated("3 to 2 and 2 to 4", qh_estimate_search(LIST(tens), LIST(turned)), (QhEstimate){.refusal = QH_REFUSED_RANGE});
+    estimated("0 to 5 and a word", qh_estimate_search(LIST(tens), LIST(broken)),
+              (QhEstimate){.refusal = QH_REFUSED_RANGE});
+    estimated("3 to 2 and 2 to 4", qh_estimate_search(LIST(tens), LIST(turned)),
+              (QhEstimate){.refusal = QH_REFUSED_RANGE});
     estimated("a word", qh_estimate_search(LIST(tens), broken, 1), (QhEstimate){.refusal = QH_REFUSED_RANGE_COUNT});
     estimated("no range", qh_estimate_search(LIST(tens), one, 0), (QhEstimate){.refusal = QH_REFUSED_RANGE_COUNT});
     estimated("0 to 3 and 2 to 4", qh_estimate_search(LIST(tens), LIST(early)),

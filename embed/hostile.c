@@ -246,9 +246,11 @@ static void empty_list(uint32_t *list, uint64_t *places, uint8_t *bytes) {
     try_check(freqs, volume, list, 0);
     try_range(list, 0, 0, 0);
     QhEstimate searched = qh_estimate_search(list, 0, list, 0);
-    judge("qh_estimate_search of no list", searched.refusal, searched.refusal == QH_REFUSED_HEAD && searched.estimate == 0);
+    judge("qh_estimate_search of no list", searched.refusal,
+          searched.refusal == QH_REFUSED_HEAD && searched.estimate == 0);
     searched = qh_estimate_search(words, words_len, list, 0);
-    judge("qh_estimate_search of no range", searched.refusal, searched.refusal == QH_REFUSED_RANGE_COUNT && searched.estimate == 0);
+    judge("qh_estimate_search of no range", searched.refusal,
+          searched.refusal == QH_REFUSED_RANGE_COUNT && searched.estimate == 0);
     QhFilled filled = qh_fill_totals(words, words_len, places, 0);
     judge("qh_fill_totals into no list", filled.refusal, filled.refusal == QH_REFUSED_PLACES && filled.places == 0);
     QhAnswered answer = qh_answer_worksheet(list, 0, places, 0, list, 0, places, 0);

@@ -19,9 +19,9 @@
  *   running    kept beside a histogram for worksheets, 64 bits each: at place i the sum of the numbers that the totals of
  *   totals     the buckets before bucket i stand for, and one last place for all
  *   search     one to sixteen ranges that are looked up together, as those of an irregular verb; none starts before the
- *              one ahead of it ends
- *   worksheet  a list of ranges that are each looked up by themselves. Ranges are lent as two numbers each: the x and the
- *              y of the first, those of the second, and so on.
+ *              one ahead of it ends. Ranges are lent as two numbers each: the x and the y of the first, those of the
+ *              second, and so on.
+ *   worksheet  a list of ranges that are each looked up by themselves
  *
  * How close they come
  *   The histograms of qh_build, and all others that qh_check accepts for the list, keep this for every range within

@@ -6,7 +6,7 @@
 use crate::list::Bound;
 use std::iter::Sum;
 
-/// The k that are tried of one range.
+/// The k of one range that directed lists aim at, and whose largest shares are kept for printing.
 pub const KS: [u32; 11] = [3, 4, 5, 6, 7, 8, 9, 10, 11, 12, 100];
 
 /// The same for more ranges, as far above twice their number.
@@ -59,11 +59,11 @@ impl Used {
 pub enum Form {
     /// As demand 3 and request (ii) ask: the answer is allowed the less than 1 that rounding up adds to each range.
     Asked,
-    /// Nothing is allowed for rounding, and neither number reaches that multiple of the other.
-    Stronger,
+    /// The shorter rule: nothing is allowed for rounding, and neither number reaches that multiple of the other.
+    Shorter,
 }
 
-pub const FORMS: [Form; 2] = [Form::Asked, Form::Stronger];
+pub const FORMS: [Form; 2] = [Form::Asked, Form::Shorter];
 
 /// The rule for so many ranges and one k above twice their number.
 #[derive(Clone, Copy, Debug, PartialEq, Eq)]
@@ -91,7 +91,7 @@ impl Rule {
         let edge = self.k * u64::from(self.bound.theta);
         match self.form {
             Form::Asked => pair.count >= edge || pair.estimate >= edge + self.ranges,
-            Form::Stronger => pair.count > edge || pair.estimate > edge,
+            Form::Shorter => pair.count > edge || pair.estimate > edge,
         }
     }
 
@@ -100,7 +100,7 @@ impl Rule {
     pub fn used(self, pair: Pair, side: Side) -> Used {
         let allowed = match self.form {
             Form::Asked => self.ranges,
-            Form::Stronger => 0,
+            Form::Shorter => 0,
         };
         let (a, b) = match side {
             Side::Count => (pair.count, pair.estimate),
@@ -139,7 +139,7 @@ pub fn promise(bound: Bound, k: u32) -> f64 {
 pub fn strictest(form: Form, bound: Bound, ranges: u64, pair: Pair) -> Option<Rule> {
     let reached = match form {
         Form::Asked => pair.count.max(pair.estimate.saturating_sub(ranges)),
-        Form::Stronger => pair.count.max(pair.estimate).saturating_sub(1),
+        Form::Shorter => pair.count.max(pair.estimate).saturating_sub(1),
     };
     let k = reached / u64::from(bound.theta);
     (k > 2 * ranges).then_some(Rule { form, bound, ranges, k })
@@ -147,6 +147,6 @@ pub fn strictest(form: Form, bound: Bound, ranges: u64, pair: Pair) -> Option<Ru
 
 /// A rule that some ranges break.
 pub fn broken_rule(bound: Bound, ranges: u64, pair: Pair) -> Option<Rule> {
-    let rules = FORMS.into_iter().filter_map(|form| strictest(form, bound, ranges, pair));
-    rules.into_iter().find(|rule| !rule.holds(pair))
+    let mut rules = FORMS.into_iter().filter_map(|form| strictest(form, bound, ranges, pair));
+    rules.find(|rule| !rule.holds(pair))
 }

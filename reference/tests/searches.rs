@@ -290,7 +290,7 @@ fn lists_are_directed_at_several_ranges() {
                 estimate: answered(&made.histogram, x, y),
             };
             let all: Pair = (0..ranges).map(|_| one).sum();
-            let rule = Rule { form: Form::Stronger, bound: made.histogram.head.bound, ranges, k: 2 * ranges + 1 };
+            let rule = Rule { form: Form::Shorter, bound: made.histogram.head.bound, ranges, k: 2 * ranges + 1 };
             let accepted = check(&made.frequencies, &write(&made.histogram)) == Ok(Verdict::Accepted);
             accepted && rule.applies(all) && rule.goes_beyond_next(rule.used(all, side))
         });
@@ -322,17 +322,17 @@ fn the_strictest_rule() {
 
 /// What is asked is part of what is claimed.
 #[test]
-fn the_stronger_form_includes_the_one_asked_for() {
+fn the_shorter_form_includes_the_one_asked_for() {
     let mut random = Random::new(23);
     for _ in 0..20_000 {
         let ranges = random.between(1, 16);
         let bound = Bound::new(random.any_size(20) as u32, 5, random.between(2, 4) as u32);
         let pair = Pair { count: random.any_size(2_000), estimate: random.any_size(2_000) };
         let k = random.between(2 * ranges + 1, 2 * ranges + 30);
-        let [asked, stronger] = FORMS.map(|form| Rule { form, bound, ranges, k });
+        let [asked, shorter] = FORMS.map(|form| Rule { form, bound, ranges, k });
         let at_the_edge = pair.count == k * u64::from(bound.theta);
-        assert!(!asked.applies(pair) || stronger.applies(pair) || at_the_edge);
-        assert!(!stronger.holds(pair) || asked.holds(pair));
+        assert!(!asked.applies(pair) || shorter.applies(pair) || at_the_edge);
+        assert!(!shorter.holds(pair) || asked.holds(pair));
     }
 }
 

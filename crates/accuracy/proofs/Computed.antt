@@ -20,7 +20,21 @@ use Rattle.accuracy.specs.Worked.{Worked, WorkedTwo}
 
 pub worked : Worked
 unfolding each some refusal first largest root classNumber middle totalNumber validFields decode headGood headFault largeQFault lengthFault wordsBroken wordFault startFault widthsBroken widthFault classBroken totalBroken codesBroken codeFault rangesFit bucketletFits entriesFault sumFault mismatch accepted sumOf rounded piece bucketPiece exact rangeFault raised estimate estimateReply
-worked = record { all-accepted = refl; counts = refl; answers = refl; two-cuts = refl; below-theta = refl; needs-q = refl; zeros-accepted = refl; zeros-answered = refl }
+worked =
+    record {
+      all-accepted = refl;
+      counts = refl;
+      answers = refl;
+      two-cuts = refl;
+      below-theta = refl;
+      needs-q = refl;
+      outer-accepted = refl;
+      outer-answered = refl;
+      distances = ((omega arith, omega arith), (omega arith, omega arith));
+      one-theta = refl;
+      zeros-accepted = refl;
+      zeros-answered = refl;
+    }
 
 pub worked-two : WorkedTwo
 unfolding each some refusal first largest root classNumber middle totalNumber validFields decode headGood headFault largeQFault lengthFault wordsBroken wordFault startFault widthsBroken widthFault classBroken totalBroken codesBroken codeFault rangesFit bucketletFits entriesFault sumFault mismatch accepted sumOf rounded piece bucketPiece exact rangeFault raised estimate estimateReply countFault orderFault searchReply

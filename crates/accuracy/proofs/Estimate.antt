@@ -20,7 +20,7 @@ use Rattle.estimate_rules.proofs.ExactLaws.{inside-says}
 use Rattle.estimate_rules.proofs.CutLaws.{cuts-most}
 use Rattle.estimate_rules.proofs.SpanLaws.{exact-holds}
 use Rattle.accuracy.proofs.Ranges.{countIn, count-some, count-all, Adding, Spanned, spanned-joined}
-use Rattle.accuracy.proofs.Split.{Split, split-near, split-as, split-adds, Capped, capped-whole, capped-adds}
+use Rattle.accuracy.proofs.Close.{Close, close-near, close-as, close-adds, Capped, capped-whole, capped-adds}
 use Rattle.accuracy.proofs.Pieces.{bucketlet-spanned, bucketlet-capped}
 use Rattle.fit.proofs.AcceptedLaws.{Fitting}
 
@@ -32,15 +32,15 @@ module _ (fs ws : List ℕ) (ok : Fitting fs ws) (x y : ℕ) (ordered : x ≤ y)
       let to : min y e ≡ e = omega arith in
       count-some fs x y a e ordered (omega arith) ∙ ap (λ (i : ℕ). partSum i (min y e - i) fs) from ∙ ap (λ (j : ℕ). partSum a (j - a) fs) to
 
-  pub total-split : (b : ℕ) → b < buckets ws → inside x y (start ws b) (end ws b) ≡ true
-      → Split (qn ws) (qd ws) (theta ws) 0 (countIn fs x y (start ws b) (end ws b)) (number (totalNumber (bucketAt ws b .total)))
-  total-split b h t =
+  pub total-close : (b : ℕ) → b < buckets ws → inside x y (start ws b) (end ws b) ≡ true
+      → Close (qn ws) (qd ws) (theta ws) 0 (countIn fs x y (start ws b) (end ws b)) (number (totalNumber (bucketAt ws b .total)))
+  total-close b h t =
       let a = start ws b in
       let e = end ws b in
       let says = inside-says x y a e t in
       let n = number (totalNumber (bucketAt ws b .total)) in
       let near = ok .totals b h in
-      split-as (split-near (qn ws) (qd ws) (theta ws) (partSum a (span ws b) fs) n (omega arith) (omega (arith, near .count)) (omega (arith, near .estimate)))
+      close-as (close-near (qn ws) (qd ws) (theta ws) (partSum a (span ws b) fs) n (omega arith) (omega (arith, near .count)) (omega (arith, near .estimate)))
       (countIn fs x y a e) n (total-count a e (says .0) (says .1) (histogram .tiles ws (ok .readable) .not-empty b h)) refl
 
   -- what is shown of bucketlet j of bucket b
@@ -59,9 +59,9 @@ module _ (fs ws : List ℕ) (ok : Fitting fs ws) (x y : ℕ) (ordered : x ≤ y)
       subst (λ (n : ℕ). P (u + v) n (exact ws x y)) (count-all fs x y 0 d ordered (omega arith) l)
       (adds .more _ (u + v) _ (exact ws x y) (omega (arith, mul-le-mul-left u (cuts-most x 0 d), mul-le-mul-left v (cuts-most y 0 d))) all)
 
-  pub range-split : (u v : ℕ) → ((b j : ℕ) → b < buckets ws → j < 8 → OfBucketlet (Split (qn ws) (qd ws) (theta ws)) u v b j) → y ≤ entries ws
-      → Split (qn ws) (qd ws) (theta ws) (u + v) (partSum x (y - x) fs) (exact ws x y)
-  range-split u v bucketlets l = range-holds (Split (qn ws) (qd ws) (theta ws)) (split-adds (qn ws) (qd ws) (theta ws)) u v bucketlets total-split l
+  pub range-close : (u v : ℕ) → ((b j : ℕ) → b < buckets ws → j < 8 → OfBucketlet (Close (qn ws) (qd ws) (theta ws)) u v b j) → y ≤ entries ws
+      → Close (qn ws) (qd ws) (theta ws) (u + v) (partSum x (y - x) fs) (exact ws x y)
+  range-close u v bucketlets l = range-holds (Close (qn ws) (qd ws) (theta ws)) (close-adds (qn ws) (qd ws) (theta ws)) u v bucketlets total-close l
 
   -- a bucketlet by its start and its width
   pub by-width : (P : ℕ → ℕ → Fraction → Type 0) (u v b j : ℕ)
@@ -72,14 +72,14 @@ module _ (fs ws : List ℕ) (ok : Fitting fs ws) (x y : ℕ) (ordered : x ≤ y)
 
   -- with one excused at either end
 
-  pub range-split-two : y ≤ entries ws → Split (qn ws) (qd ws) (theta ws) 2 (partSum x (y - x) fs) (exact ws x y)
-  range-split-two =
-      range-split 1 1
-      (λ b j h l. by-width (Split (qn ws) (qd ws) (theta ws)) 1 1 b j (bucketlet-spanned (qualityOf ws) fs x y _ _ _ ordered (ok .bucketlets b j h l)))
+  pub range-close-two : y ≤ entries ws → Close (qn ws) (qd ws) (theta ws) 2 (partSum x (y - x) fs) (exact ws x y)
+  range-close-two =
+      range-close 1 1
+      (λ b j h l. by-width (Close (qn ws) (qd ws) (theta ws)) 1 1 b j (bucketlet-spanned (qualityOf ws) fs x y _ _ _ ordered (ok .bucketlets b j h l)))
 
   pub range-capped : y ≤ entries ws → Capped (qn ws) (qd ws) (theta ws) 2 (partSum x (y - x) fs) (exact ws x y)
   range-capped =
       let least = histogram .limits ws (ok .readable) .least-theta in
       range-holds (Capped (qn ws) (qd ws) (theta ws)) (capped-adds (qn ws) (qd ws) (theta ws)) 1 1
       (λ b j h l. by-width (Capped (qn ws) (qd ws) (theta ws)) 1 1 b j (bucketlet-capped (qualityOf ws) fs x y _ _ _ ordered (ok .bucketlets b j h l) least))
-      (λ b h t. capped-whole (qn ws) (qd ws) (theta ws) _ _ refl (total-split b h t))
+      (λ b h t. capped-whole (qn ws) (qd ws) (theta ws) _ _ refl (total-close b h t))

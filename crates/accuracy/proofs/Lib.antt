@@ -1,7 +1,7 @@
 pub mod Computed
-pub mod Parts
+pub mod ButFor
 pub mod Ranges
-pub mod Split
+pub mod Close
 pub mod Pieces
 pub mod Estimate
 pub mod Uncut

@@ -21,11 +21,11 @@ use Rattle.estimate_rules.proofs.FractionLaws.{sum-none, sum-one}
 use Rattle.estimate_rules.proofs.ExactLaws.{inside-says, piece-none, bucket-whole, bucket-parts}
 use Rattle.estimate_rules.proofs.CutLaws.{rises, apart}
 use Rattle.estimate_rules.proofs.SpanLaws.{bucketlets-rise, first-bucketlet, last-bucketlet, edge, edge-start, edge-end, edges-rise}
-use Rattle.accuracy.proofs.Split.{Split, split-as}
+use Rattle.accuracy.proofs.Close.{Close, close-as}
 use Rattle.accuracy.proofs.Ranges.{countIn, count-all}
 use Rattle.accuracy.proofs.Pieces.{bucketlet-above}
 use Rattle.fit.proofs.AcceptedLaws.{Fitting}
-use Rattle.accuracy.proofs.Estimate.{total-split}
+use Rattle.accuracy.proofs.Estimate.{total-close}
 
 module _ (x y : ℕ) where
   -- the range lies beside the span from a to e
@@ -104,8 +104,8 @@ module _ (fs ws : List ℕ) (ok : Fitting fs ws) (x y : ℕ) (ordered : x ≤ y)
     bucket-count : countIn fs x y (start ws b) (end ws b) ≡ partSum x (y - x) fs
     bucket-count = count-all fs x y (start ws b) (end ws b) ordered starts-in ends-in
 
-    pub one-split : (theta ws < partSum x (y - x) fs) ⊎ (theta ws < rounded (exact ws x y)) → Split (qn ws) (qd ws) (theta ws) 0 (partSum x (y - x) fs) (exact ws x y)
-    one-split above = ⊎-elim whole part (tested (inside x y (start ws b) (end ws b)))
+    pub one-close : (theta ws < partSum x (y - x) fs) ⊎ (theta ws < rounded (exact ws x y)) → Close (qn ws) (qd ws) (theta ws) 0 (partSum x (y - x) fs) (exact ws x y)
+    one-close above = ⊎-elim whole part (tested (inside x y (start ws b) (end ws b)))
       where
         f : ℕ
         f = partSum x (y - x) fs
@@ -113,10 +113,10 @@ module _ (fs ws : List ℕ) (ok : Fitting fs ws) (x y : ℕ) (ordered : x ≤ y)
         r : Bucket
         r = bucketAt ws b
 
-        whole : inside x y (start ws b) (end ws b) ≡ true → Split (qn ws) (qd ws) (theta ws) 0 f (exact ws x y)
-        whole t = split-as (total-split fs ws ok x y ordered b h t) f (exact ws x y) (sym bucket-count) (exact-one ∙ bucket-whole ws x y b t)
+        whole : inside x y (start ws b) (end ws b) ≡ true → Close (qn ws) (qd ws) (theta ws) 0 f (exact ws x y)
+        whole t = close-as (total-close fs ws ok x y ordered b h t) f (exact ws x y) (sym bucket-count) (exact-one ∙ bucket-whole ws x y b t)
 
-        part : inside x y (start ws b) (end ws b) ≡ false → Split (qn ws) (qd ws) (theta ws) 0 f (exact ws x y)
+        part : inside x y (start ws b) (end ws b) ≡ false → Close (qn ws) (qd ws) (theta ws) 0 f (exact ws x y)
         part t =
             let a = bucketletStart r j in
             let w = widthAt r j in
@@ -125,4 +125,4 @@ module _ (fs ws : List ℕ) (ok : Fitting fs ws) (x y : ℕ) (ordered : x ≤ y)
             let e : exact ws x y ≡ piece x y a w s = exact-one ∙ bucket-parts ws x y b t ∙ bucketlets-one in
             let up : (theta ws < countIn fs x y a (a + w)) ⊎ (theta ws < rounded (piece x y a w s)) =
             ⊎-elim (λ (g : theta ws < f). inl (rw c g)) (λ (g : theta ws < rounded (exact ws x y)). inr (rw e at g)) above in
-            split-as (bucketlet-above (qualityOf ws) fs x y a w s ordered (ok .bucketlets b j h l) up) f (exact ws x y) (sym c) e
+            close-as (bucketlet-above (qualityOf ws) fs x y a w s ordered (ok .bucketlets b j h l) up) f (exact ws x y) (sym c) e

@@ -20,13 +20,17 @@ use Rattle.estimate_rules.specs.Fraction.{rounded, numerator}
 use Rattle.estimate_rules.specs.Exact.{exact}
 use Rattle.estimate_rules.specs.Asking.{estimate}
 use Rattle.estimate_rules.proofs.FractionLaws.{rounded-reaches, rounded-most}
+use Rattle.estimate_rules.specs.Search.{searchReply}
 use Rattle.estimate_rules.proofs.AskingLaws.{raised-or, reply-is}
-use Rattle.accuracy.specs.Claims.{count, answer, Within, SeveralRangesShorter, Accurate, Accuracy}
-use Rattle.accuracy.proofs.Parts.{Parts}
-use Rattle.accuracy.proofs.Split.{Split, split-within}
+use Rattle.estimate_rules.proofs.RangesLaws.{range-ordered, range-within}
+use Rattle.estimate_rules.proofs.SearchLaws.{search-taken, search-within}
+use Rattle.estimate_rules.proofs.Proved.{searches}
+use Rattle.accuracy.specs.Claims.{count, answer, answerOf, InList, Within, SeveralRangesShorter, Accurate, Accuracy}
+use Rattle.accuracy.proofs.ButFor.{ButFor}
+use Rattle.accuracy.proofs.Close.{Close, close-within}
 use Rattle.fit.proofs.AcceptedLaws.{Fitting, fitting}
-use Rattle.accuracy.proofs.Estimate.{range-split-two, range-capped}
-use Rattle.accuracy.proofs.OneBucketlet.{ends-in-list, one-split}
+use Rattle.accuracy.proofs.Estimate.{range-close-two, range-capped}
+use Rattle.accuracy.proofs.OneBucketlet.{ends-in-list, one-close}
 use Rattle.accuracy.proofs.Uncut.{uncut-within}
 use Rattle.accuracy.proofs.NoneLeft.{none-left}
 use Rattle.accuracy.proofs.Several.{either, several-shorter, follows}
@@ -73,25 +77,25 @@ module _ (fs ws : List ℕ) (ok : Fitting fs ws) where
   some k h = omega (arith, mul-le-mul h (histogram .limits ws (ok .readable) .least-theta))
 
   -- the lemma, for the histogram's own theta and q
-  within : (m x y k : ℕ) → x ≤ y → y ≤ entries ws → Split (qn ws) (qd ws) (theta ws) m (count fs x y) (exact ws x y) → m < k
+  within : (m x y k : ℕ) → x ≤ y → y ≤ entries ws → Close (qn ws) (qd ws) (theta ws) m (count fs x y) (exact ws x y) → m < k
       → (k * theta ws < count fs x y) ⊎ (k * theta ws < answer ws x y) → Within (qn ws * k) (qd ws * (k - m)) 1 (count fs x y) (answer ws x y)
   within m x y k h l s g r =
       let limits = histogram .limits ws (ok .readable) in
       let a = answer-is x y h l in
       answer-within _ _ _ _ _ a
-      (split-within s k (limits .least-qd) (omega (arith, limits .least-q)) g (sum-above (k * theta ws) _ _ _ (some k (omega arith)) a r))
+      (close-within s k (limits .least-qd) (omega (arith, limits .least-q)) g (sum-above (k * theta ws) _ _ _ (some k (omega arith)) a r))
 
   -- a range's count and answer are within q but for 2 theta
-  two-theta : (x y : ℕ) → x ≤ y → y ≤ entries ws → Parts (qn ws) (qd ws) (theta ws) 2 (count fs x y) (answer ws x y)
+  two-theta : (x y : ℕ) → x ≤ y → y ≤ entries ws → ButFor (qn ws) (qd ws) (theta ws) 2 (count fs x y) (answer ws x y)
   two-theta x y h l =
       let e = exact ws x y in
-      let s = range-split-two fs ws ok x y h l in
+      let s = range-close-two fs ws ok x y h l in
       let c = range-capped fs ws ok x y h l in
       let a = answer-is x y h l in
       record {
         f-over =
             le-of-mul-le-mul-right {k = e .bottom}
-            (omega (arith, s .parts .f-over, mul-le-mul-left (qn ws) (reached (numerator e) (e .bottom) a (rounded-reaches e (s .positive))))) (s .positive);
+            (omega (arith, s .but-for .f-over, mul-le-mul-left (qn ws) (reached (numerator e) (e .bottom) a (rounded-reaches e (s .positive))))) (s .positive);
         v-over = capped (qd ws) (theta ws) (qn ws * count fs x y) (c .cap) (histogram .limits ws (ok .readable) .least-theta) a (rounded-most e (c .cap) (s .positive) (c .reached)) (c .under);
       }
     where
@@ -111,6 +115,16 @@ module _ (fs ws : List ℕ) (ok : Fitting fs ws) where
       let limits = histogram .limits ws (ok .readable) in
       several-shorter fs ws (entries ws) (theta ws) (qn ws) (qd ws) (limits .least-qd) (omega (arith, limits .least-q)) two-theta ranges k
 
+  -- a search that is answered
+
+  searched-within : (ranges : List ℕ) → searchReply ws ranges .refusal ≡ 0 → InList (entries ws) ranges
+  searched-within ranges e i l =
+      let within = search-within ws ranges (search-taken ws ranges e) in
+      (range-ordered ws ranges within i l, range-within ws ranges within i l)
+
+  searched-value : (ranges : List ℕ) → searchReply ws ranges .refusal ≡ 0 → searchReply ws ranges .value ≡ answerOf ws ranges
+  searched-value ranges e = ap (λ (r : Reply). r .value) (searches .searched ws ranges (search-taken ws ranges e) .sum-of-singles)
+
   pub accurate : Accurate fs ws (entries ws) (theta ws) (qn ws) (qd ws)
   accurate =
       let rules = follows fs ws (entries ws) (theta ws) (qn ws) (qd ws) in
@@ -118,14 +132,16 @@ module _ (fs ws : List ℕ) (ok : Fitting fs ws) where
         answered = λ x y h l. ap (λ (r : Reply). r .refusal) (reply-is ws x y (ok .readable) h l);
         none-left = λ x y h l z. none-left fs ws ok x y h l z;
         but-for-2-theta = λ x y h l. (two-theta x y h l .f-over, two-theta x y h l .v-over);
-        accurate = rules .one (rules .several shorter);
+        accurate = rules .one (rules .as-asked shorter);
         shorter = rules .one-shorter shorter;
-        several = rules .several shorter;
+        several = rules .as-asked shorter;
         several-shorter = shorter;
+        searched = λ ranges k e. rw (searched-value ranges e) (rules .as-asked shorter ranges k (searched-within ranges e));
+        searched-shorter = λ ranges k e. rw (searched-value ranges e) (shorter ranges k (searched-within ranges e));
         one-bucketlet = λ b j x y h l from g to r.
             let inside = ends-in-list fs ws ok x y g b j h l from to in
             let theta-some = histogram .limits ws (ok .readable) .least-theta in
-            let s = one-split fs ws ok x y g b j h l from to (sum-above (theta ws) _ _ _ theta-some (answer-is x y g inside) r) in
+            let s = one-close fs ws ok x y g b j h l from to (sum-above (theta ws) _ _ _ theta-some (answer-is x y g inside) r) in
             let w = within 0 x y 1 g inside s (omega arith) (either r (λ f. omega arith) (λ f. omega arith)) in
             record { count-within = omega (arith, w .count-within); answer-within = omega (arith, w .answer-within) };
         whole = λ x y h l from to.

@@ -11,7 +11,7 @@ use Rattle.laws.specs.Tabulate.{tabulate}
 use Rattle.laws.proofs.TabulateLaws.{sums-within}
 use Rattle.estimate_rules.specs.Ranges.{rangeCount, xAt, yAt}
 use Rattle.accuracy.specs.Claims.{count, answer, countOf, answerOf, InList, Within, ShorterRule, OneRange, OneRangeShorter, SeveralRanges, SeveralRangesShorter, Follows}
-use Rattle.accuracy.proofs.Parts.{Parts, factor}
+use Rattle.accuracy.proofs.ButFor.{ButFor, factor}
 
 -- one of two facts, each as another follows from it
 pub either : {A B C D : Type 0} → A ⊎ B → (A → C) → (B → D) → C ⊎ D
@@ -19,19 +19,19 @@ either (inl a) f g = inl (f a)
 either (inr b) f g = inr (g b)
 
 module _ (fs ws : List ℕ) (d theta qn qd : ℕ) where
-  module _ (least : 1 ≤ qd) (above : qd ≤ qn) (near : (x y : ℕ) → x ≤ y → y ≤ d → Parts qn qd theta 2 (count fs x y) (answer ws x y)) (ranges : List ℕ) where
-    abbrev countAt : ℕ → ℕ
-    countAt i = count fs (xAt ranges i) (yAt ranges i)
+  module _ (least : 1 ≤ qd) (above : qd ≤ qn) (near : (x y : ℕ) → x ≤ y → y ≤ d → ButFor qn qd theta 2 (count fs x y) (answer ws x y)) (ranges : List ℕ) where
+    abbrev countFor : ℕ → ℕ
+    countFor i = count fs (xAt ranges i) (yAt ranges i)
 
-    abbrev answerAt : ℕ → ℕ
-    answerAt i = answer ws (xAt ranges i) (yAt ranges i)
+    abbrev answerFor : ℕ → ℕ
+    answerFor i = answer ws (xAt ranges i) (yAt ranges i)
 
-    several-parts : InList d ranges → Parts qn qd theta (2 * rangeCount ranges) (countOf fs ranges) (answerOf ws ranges)
-    several-parts h =
-        let at : (i : ℕ) → i < rangeCount ranges → Parts qn qd theta 2 (countAt i) (answerAt i) = λ i l. near (xAt ranges i) (yAt ranges i) (h i l .0) (h i l .1) in
+    several-but-for : InList d ranges → ButFor qn qd theta (2 * rangeCount ranges) (countOf fs ranges) (answerOf ws ranges)
+    several-but-for h =
+        let at : (i : ℕ) → i < rangeCount ranges → ButFor qn qd theta 2 (countFor i) (answerFor i) = λ i l. near (xAt ranges i) (yAt ranges i) (h i l .0) (h i l .1) in
         record {
-          f-over = omega (arith, sums-within (rangeCount ranges) qd qn (qd * (2 * theta)) countAt answerAt (λ i l. at i l .f-over));
-          v-over = omega (arith, sums-within (rangeCount ranges) qd qn (qd * (2 * theta)) answerAt countAt (λ i l. at i l .v-over));
+          f-over = omega (arith, sums-within (rangeCount ranges) qd qn (qd * (2 * theta)) countFor answerFor (λ i l. at i l .f-over));
+          v-over = omega (arith, sums-within (rangeCount ranges) qd qn (qd * (2 * theta)) answerFor countFor (λ i l. at i l .v-over));
         }
 
     -- no range has neither count nor answer
@@ -39,20 +39,20 @@ module _ (fs ws : List ℕ) (d theta qn qd : ℕ) where
     some-range t r =
         ⊎-elim
         (λ (z : rangeCount ranges ≡ 0).
-        let f = ap (λ (n : ℕ). sum (tabulate n countAt)) z in
-        let g = ap (λ (n : ℕ). sum (tabulate n answerAt)) z in
+        let f = ap (λ (n : ℕ). sum (tabulate n countFor)) z in
+        let g = ap (λ (n : ℕ). sum (tabulate n answerFor)) z in
         absurd (⊎-elim (λ (l : t < countOf fs ranges). omega arith) (λ (l : t < answerOf ws ranges). omega arith) r))
         (λ (h : 0 < rangeCount ranges). h)
         (eq-zero-or-pos (rangeCount ranges))
 
     pub several-shorter : (k : ℕ) → InList d ranges → ShorterRule theta qn qd (rangeCount ranges) k (countOf fs ranges) (answerOf ws ranges)
     several-shorter k h l r =
-        let w = factor (several-parts h) k 1 above (omega arith) (either r (λ g. omega arith) (λ g. omega arith)) in
+        let w = factor (several-but-for h) k 1 above (omega arith) (either r (λ g. omega arith) (λ g. omega arith)) in
         let more : 0 < qd * (2 * rangeCount ranges) = mul-pos least (omega (arith, some-range (k * theta) r)) in
         record { count-below = omega (arith, w .f-within); answer-below = omega (arith, w .v-within) }
 
-  several : SeveralRangesShorter fs ws d theta qn qd → SeveralRanges fs ws d theta qn qd
-  several shorter ranges k h l r =
+  as-asked : SeveralRangesShorter fs ws d theta qn qd → SeveralRanges fs ws d theta qn qd
+  as-asked shorter ranges k h l r =
       let b = shorter ranges k h l (either r (λ g. g) (λ g. omega arith)) in
       let n = rangeCount ranges in
       record {
@@ -79,4 +79,4 @@ module _ (fs ws : List ℕ) (d theta qn qd : ℕ) where
       rw (add-zero (count fs x y), add-zero (answer ws x y)) at s
 
   pub follows : Follows fs ws d theta qn qd
-  follows = record { several = several; one = one; one-shorter = one-shorter }
+  follows = record { as-asked = as-asked; one = one; one-shorter = one-shorter }

@@ -26,6 +26,7 @@ use Rattle.estimate_rules.specs.Fraction.{numerator}
 use Rattle.estimate_rules.specs.Exact.{exact}
 use Rattle.estimate_rules.specs.Asking.{estimateReply}
 use Rattle.estimate_rules.specs.Ranges.{rangeCount, xAt, yAt, sumOver}
+use Rattle.estimate_rules.specs.Search.{searchReply}
 
 -- the true count of the range from x to y
 abbrev pub count : List ℕ → ℕ → ℕ → ℕ
@@ -35,7 +36,7 @@ count fs x y = partSum x (y - x) fs
 abbrev pub answer : List ℕ → ℕ → ℕ → ℕ
 answer ws x y = estimateReply ws x y .value
 
--- of ranges that are lent as a list, two words a range, both together
+-- of ranges that are lent as a list, two words a range, both together; a search is answered so (`sum-of-singles` of estimate_rules)
 
 abbrev pub countOf : List ℕ → List ℕ → ℕ
 countOf fs ranges = sumOver ranges (count fs)
@@ -59,6 +60,10 @@ pub record Below (n d count answer : ℕ) : Type 0 where
 
 -- The rules of the last question, for a theta and a q
 module _ (theta qn qd : ℕ) where
+  -- of one range, whatever its size: each is at most q times the other and 2 theta
+  abbrev pub Distance : ℕ → ℕ → Type 0
+  Distance count answer = (qd * count ≤ qn * answer + qd * (2 * theta)) × (qd * answer ≤ qn * count + qd * (2 * theta))
+
   -- of r ranges (request ii): where their count is above k times theta, or their answer above that and r - 1, the factor is q times k/(k - 2r)
   abbrev pub Rule : ℕ → ℕ → ℕ → ℕ → Type 0
   Rule r k count answer =
@@ -99,14 +104,17 @@ pub record Accurate (fs ws : List ℕ) (d theta qn qd : ℕ) : Type 0 where
   pub answered : (x y : ℕ) → x ≤ y → y ≤ d → estimateReply ws x y .refusal ≡ 0
   -- where the sum is 0, so that the range is empty or answered with 1, the count is 0
   pub none-left : (x y : ℕ) → x ≤ y → y ≤ d → numerator (exact ws x y) ≡ 0 → count fs x y ≡ 0
-  -- whatever its size, each is at most q times the other and 2 theta
-  pub but-for-2-theta : (x y : ℕ) → x ≤ y → y ≤ d
-      → (qd * count fs x y ≤ qn * answer ws x y + qd * (2 * theta)) × (qd * answer ws x y ≤ qn * count fs x y + qd * (2 * theta))
+  pub but-for-2-theta : (x y : ℕ) → x ≤ y → y ≤ d → Distance theta qn qd (count fs x y) (answer ws x y)
   -- the rules of the last question
   pub accurate : OneRange fs ws d theta qn qd
   pub shorter : OneRangeShorter fs ws d theta qn qd
   pub several : SeveralRanges fs ws d theta qn qd
   pub several-shorter : SeveralRangesShorter fs ws d theta qn qd
+  -- and of what a search is answered with
+  pub searched : (ranges : List ℕ) (k : ℕ) → searchReply ws ranges .refusal ≡ 0
+      → Rule theta qn qd (rangeCount ranges) k (countOf fs ranges) (searchReply ws ranges .value)
+  pub searched-shorter : (ranges : List ℕ) (k : ℕ) → searchReply ws ranges .refusal ≡ 0
+      → ShorterRule theta qn qd (rangeCount ranges) k (countOf fs ranges) (searchReply ws ranges .value)
   -- inside one bucketlet, above theta, it is q itself
   pub one-bucketlet : (b j x y : ℕ) → b < buckets ws → j < 8 → bucketletStart (bucketAt ws b) j ≤ x → x ≤ y → y ≤ bucketletEnd (bucketAt ws b) j
       → (theta < count fs x y) ⊎ (theta < answer ws x y)
@@ -117,7 +125,7 @@ pub record Accurate (fs ws : List ℕ) (d theta qn qd : ℕ) : Type 0 where
 
 -- what follows from what: request ii's form from the shorter one, and the rules of one range as the case of r = 1
 pub record Follows (fs ws : List ℕ) (d theta qn qd : ℕ) : Type 0 where
-  pub several : SeveralRangesShorter fs ws d theta qn qd → SeveralRanges fs ws d theta qn qd
+  pub as-asked : SeveralRangesShorter fs ws d theta qn qd → SeveralRanges fs ws d theta qn qd
   pub one : SeveralRanges fs ws d theta qn qd → OneRange fs ws d theta qn qd
   pub one-shorter : SeveralRangesShorter fs ws d theta qn qd → OneRangeShorter fs ws d theta qn qd
 

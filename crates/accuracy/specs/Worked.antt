@@ -4,13 +4,13 @@
 use mathlib.Core.Path.{_≡_}
 use mathlib.Core.Bool.{true, false}
 use mathlib.Core.List.{List, [], _∷_, _++_}
-use Prim.Native.Nat.{ℕ, _-_, _*_}
+use Prim.Native.Nat.{ℕ, _+_, _-_, _*_}
 use lib.Dec.{leb, ltb}
 use Rattle.words_rules.specs.Worked.{zeros}
 use Rattle.fit.specs.Accepted.{accepted}
 use Rattle.laws.specs.Reply.{answered}
 use Rattle.estimate_rules.specs.Search.{searchReply}
-use Rattle.accuracy.specs.Claims.{count, answer, countOf, answerOf, Rule, ShorterRule}
+use Rattle.accuracy.specs.Claims.{count, answer, countOf, answerOf, Distance, Rule, ShorterRule}
 
 -- a number between two spikes, each in a bucketlet of 9 entries that stands for 93; theta is 98, which excuses a spike
 abbrev pub spikes : ℕ → List ℕ
@@ -28,10 +28,14 @@ small = 19 ∷ 98 ∷ 0x1404 ∷ 1 ∷ 0x40000209 ∷ 0x8E24E000 ∷ 0x80000D41 
 abbrev pub alone : List ℕ
 alone = 2 ∷ 1 ∷ 0x1404 ∷ 1 ∷ 0x40000201 ∷ 0x8E040000 ∷ 0x80000EA0 ∷ 0xC0040000 ∷ 0xC0000000 ∷ []
 
+-- 98, 0, 0, 98, each half in a bucketlet that stands for 93, with theta 50 and q 3
+abbrev pub outer : List ℕ
+outer = 4 ∷ 50 ∷ 0xC01 ∷ 1 ∷ 0x40000202 ∷ 0x8E380000 ∷ 0x80000C41 ∷ 0xC0080000 ∷ 0xC0000000 ∷ []
+
 -- ---- the same of two ranges
 
-abbrev pub two : List ℕ
-two = 8 ∷ 11 ∷ 27 ∷ 30 ∷ []
+abbrev pub twoRanges : List ℕ
+twoRanges = 8 ∷ 11 ∷ 27 ∷ 30 ∷ []
 
 -- spikes 116 twice, one after the other
 abbrev pub largeTwice : List ℕ
@@ -45,8 +49,8 @@ abbrev pub bareTwice : List ℕ
 bareTwice = 38 ∷ 98 ∷ 0x1404 ∷ 1 ∷ 0x40000209 ∷ 0x8E04E381 ∷ 0x8E000C42 ∷ 0xC0041209 ∷ 0xC0041200 ∷ []
 
 -- 116 twice with theta 1
-abbrev pub pair : List ℕ
-pair = 2 ∷ 1 ∷ 0x1404 ∷ 1 ∷ 0x40000201 ∷ 0x8E380000 ∷ 0x80000E81 ∷ 0xC0040000 ∷ 0xC0000000 ∷ []
+abbrev pub aloneTwice : List ℕ
+aloneTwice = 2 ∷ 1 ∷ 0x1404 ∷ 1 ∷ 0x40000201 ∷ 0x8E380000 ∷ 0x80000E81 ∷ 0xC0040000 ∷ 0xC0000000 ∷ []
 
 pub record Worked : Type 0 where
   pub all-accepted : accepted (spikes 116) large ∷ accepted (spikes 17) small ∷ accepted (116 ∷ 1 ∷ []) alone ∷ [] ≡ true ∷ true ∷ true ∷ []
@@ -58,16 +62,22 @@ pub record Worked : Type 0 where
   pub below-theta : ltb (2 * 98) 197 ∷ ltb (3 * 98) 197 ∷ leb (4 * (3 - 2) * 197) (5 * 3 * 38) ∷ [] ≡ true ∷ false ∷ false ∷ []
   -- k 100: 116 is above 100 theta; it is within q times k/(k - 2) of 93, and not within k/(k - 2)
   pub needs-q : ltb (100 * 1) 116 ∷ leb (4 * (100 - 2) * 116) (5 * 100 * 93) ∷ leb ((100 - 2) * 116) (100 * 93) ∷ [] ≡ true ∷ true ∷ false ∷ []
+  -- between the two 98 nothing is counted and 93 answered
+  pub outer-accepted : accepted (98 ∷ 0 ∷ 0 ∷ 98 ∷ []) outer ≡ true
+  pub outer-answered : count (98 ∷ 0 ∷ 0 ∷ 98 ∷ []) 1 3 ∷ answer outer 1 3 ∷ [] ≡ 0 ∷ 93 ∷ []
+  -- so one theta is too little of a distance, on either side
+  pub distances : Distance 98 5 4 197 38 × Distance 50 3 1 0 93
+  pub one-theta : leb (4 * 197) (5 * 38 + 4 * 98) ∷ leb (1 * 93) (3 * 0 + 1 * 50) ∷ [] ≡ false ∷ false ∷ []
   -- of words that no longer occur, whole and cut, the count is 0 and the answer 1
   pub zeros-accepted : accepted (0 ∷ 0 ∷ 0 ∷ []) zeros ≡ true
   pub zeros-answered : count (0 ∷ 0 ∷ 0 ∷ []) 0 3 ∷ answer zeros 0 3 ∷ count (0 ∷ 0 ∷ 0 ∷ []) 1 2 ∷ answer zeros 1 2 ∷ [] ≡ 0 ∷ 1 ∷ 0 ∷ 1 ∷ []
 
 pub record WorkedTwo : Type 0 where
   pub all-accepted :
-      accepted (spikes 116 ++ spikes 116) largeTwice ∷ accepted (bare ++ bare) bareTwice ∷ accepted (116 ∷ 116 ∷ []) pair ∷ [] ≡ true ∷ true ∷ true ∷ []
-  pub counts : countOf (spikes 116 ++ spikes 116) two ∷ countOf (bare ++ bare) two ∷ countOf (116 ∷ 116 ∷ []) (0 ∷ 1 ∷ 1 ∷ 2 ∷ []) ∷ [] ≡ 592 ∷ 394 ∷ 232 ∷ []
-  pub answers : answerOf largeTwice two ∷ answerOf bareTwice two ∷ answerOf pair (0 ∷ 1 ∷ 1 ∷ 2 ∷ []) ∷ [] ≡ 228 ∷ 44 ∷ 186 ∷ []
-  pub searched : searchReply largeTwice two ∷ searchReply bareTwice two ∷ searchReply pair (0 ∷ 1 ∷ 1 ∷ 2 ∷ []) ∷ [] ≡ answered 228 ∷ answered 44 ∷ answered 186 ∷ []
+      accepted (spikes 116 ++ spikes 116) largeTwice ∷ accepted (bare ++ bare) bareTwice ∷ accepted (116 ∷ 116 ∷ []) aloneTwice ∷ [] ≡ true ∷ true ∷ true ∷ []
+  pub counts : countOf (spikes 116 ++ spikes 116) twoRanges ∷ countOf (bare ++ bare) twoRanges ∷ countOf (116 ∷ 116 ∷ []) (0 ∷ 1 ∷ 1 ∷ 2 ∷ []) ∷ [] ≡ 592 ∷ 394 ∷ 232 ∷ []
+  pub answers : answerOf largeTwice twoRanges ∷ answerOf bareTwice twoRanges ∷ answerOf aloneTwice (0 ∷ 1 ∷ 1 ∷ 2 ∷ []) ∷ [] ≡ 228 ∷ 44 ∷ 186 ∷ []
+  pub searched : searchReply largeTwice twoRanges ∷ searchReply bareTwice twoRanges ∷ searchReply aloneTwice (0 ∷ 1 ∷ 1 ∷ 2 ∷ []) ∷ [] ≡ answered 228 ∷ answered 44 ∷ answered 186 ∷ []
   -- k 6: 592 is above 6 theta; it is within q times k/(k - 4) of 228, and not within q times k/(k - 3)
   pub four-cuts : ltb (6 * 98) 592 ∷ leb (4 * (6 - 4) * 592) (5 * 6 * 228) ∷ leb (4 * (6 - 3) * 592) (5 * 6 * 228) ∷ [] ≡ true ∷ true ∷ false ∷ []
   -- k 5: 394 is above 4 theta and not above 5 theta; it is not within q times k/(k - 4) of 44

@@ -52,6 +52,11 @@ estimate-some ws x y n e d p q = p ∙ ap (λ (f : Fraction). max 1 (rounded f))
 
 -- ---- what is answered
 
+-- a range that 14 does not refuse lies within the list
+pub range-says : (ws : List ℕ) (x y : ℕ) → rangeFault ws x y ≡ false → (x ≤ y) × (y ≤ entries ws)
+unfolding rangeFault
+range-says ws x y f = (ltb-false y x (neither-left (ltb y x) (ltb (entries ws) y) f), ltb-false (entries ws) y (neither-right (ltb y x) (ltb (entries ws) y) f))
+
 module _ (ws : List ℕ) (x y : ℕ) where
   pub list-first : (readFault ws ≡ 0 → ⊥) → askFault ws x y ≡ readFault ws
   unfolding numbered
@@ -74,13 +79,12 @@ module _ (ws : List ℕ) (x y : ℕ) where
   unfolding numbered
   asked-readable e = append-first (readSentences ws) (record { number = 14; holds = rangeFault ws x y } ∷ []) refl e
 
-  -- what is not refused lies within the list
   pub asked-within : askFault ws x y ≡ 0 → (x ≤ y) × (y ≤ entries ws)
-  unfolding numbered rangeFault
+  unfolding numbered
   asked-within e =
-      let none = none-true (record { number = 14; holds = rangeFault ws x y } ∷ []) refl
-      (sym (append-passed (readSentences ws) (record { number = 14; holds = rangeFault ws x y } ∷ []) refl (asked-readable e)) ∙ e) .0 in
-      (ltb-false y x (neither-left (ltb y x) (ltb (entries ws) y) none), ltb-false (entries ws) y (neither-right (ltb y x) (ltb (entries ws) y) none))
+      range-says ws x y
+      (none-true (record { number = 14; holds = rangeFault ws x y } ∷ []) refl
+      (sym (append-passed (readSentences ws) (record { number = 14; holds = rangeFault ws x y } ∷ []) refl (asked-readable e)) ∙ e) .0)
 
   pub reply-refused : (askFault ws x y ≡ 0 → ⊥) → estimateReply ws x y ≡ refused (askFault ws x y)
   unfolding estimateReply

@@ -18,6 +18,7 @@ use Rattle.estimate_rules.specs.Fraction.{numerator, rounded}
 use Rattle.estimate_rules.specs.Exact.{bucketPiece, exact}
 use Rattle.estimate_rules.specs.Asking.{raised, estimate, estimateReply}
 use Rattle.estimate_rules.specs.Ranges.{rangeCount, xAt, yAt}
+use Rattle.estimate_rules.specs.Worksheet.{answerAt}
 use Rattle.estimate_rules.specs.Search.{searchFault, searchReply}
 use Rattle.estimate_rules.specs.Claims.{Sizes, RoundedUp, Estimates, RunningTotals, Worksheets, Searches}
 use Rattle.estimate_rules.proofs.FractionLaws.{rounded-reaches, rounded-most, sum-none}
@@ -96,10 +97,9 @@ module _ (ws : List ℕ) (readable : Readable ws) (x : ℕ) where
 
 module _ (ws ranges : List ℕ) where
   -- the estimates of the first n ranges together
-  pub sum-small : Readable ws → (n : ℕ) → sum (tabulate n (λ i. estimate ws (xAt ranges i) (yAt ranges i))) ≤ n * 2 ^ 48
+  pub sum-small : Readable ws → (n : ℕ) → sum (tabulate n (answerAt ws ranges)) ≤ n * 2 ^ 48
   sum-small r n =
-      let f : ℕ → ℕ = λ i. estimate ws (xAt ranges i) (yAt ranges i) in
-      omega (arith, sums-within n 1 0 (2 ^ 48) f f (λ i l. omega (arith, sizes ws r (xAt ranges i) (yAt ranges i) .answer-small)))
+      omega (arith, sums-within n 1 0 (2 ^ 48) (answerAt ws ranges) (answerAt ws ranges) (λ i l. omega (arith, sizes ws r (xAt ranges i) (yAt ranges i) .answer-small)))
 
   search-small : searchReply ws ranges .value ≤ 2 ^ 52
   search-small =

@@ -4,23 +4,18 @@ use mathlib.Core.Path.{_≡_}
 use mathlib.Core.Bool.{false}
 use mathlib.Core.List.{List}
 use Prim.Native.Nat.{ℕ, _≤_, _<_}
-use borrow.Author.Tests.{ltb-false}
-use lib.Dec.{ltb}
 use Rattle.laws.proofs.EachLaws.{none-at}
-use Rattle.laws.proofs.Tests.{neither-left, neither-right}
 use Rattle.words_rules.specs.Words.{entries}
-use Rattle.estimate_rules.specs.Asking.{rangeFault}
 use Rattle.estimate_rules.specs.Ranges.{rangeCount, xAt, yAt, refusedAt, someRefused}
+use Rattle.estimate_rules.proofs.AskingLaws.{range-says}
 
 -- where 14 would refuse none of them each lies within the list
 module _ (ws ranges : List ℕ) (h : someRefused ws ranges ≡ false) (i : ℕ) (l : i < rangeCount ranges) where
-  in-list : refusedAt ws ranges i ≡ false
-  in-list = none-at (rangeCount ranges) (refusedAt ws ranges) h i l
+  in-list : (xAt ranges i ≤ yAt ranges i) × (yAt ranges i ≤ entries ws)
+  in-list = range-says ws (xAt ranges i) (yAt ranges i) (none-at (rangeCount ranges) (refusedAt ws ranges) h i l)
 
   pub range-ordered : xAt ranges i ≤ yAt ranges i
-  unfolding rangeFault
-  range-ordered = ltb-false _ _ (neither-left (ltb (yAt ranges i) (xAt ranges i)) (ltb (entries ws) (yAt ranges i)) in-list)
+  range-ordered = in-list .0
 
   pub range-within : yAt ranges i ≤ entries ws
-  unfolding rangeFault
-  range-within = ltb-false _ _ (neither-right (ltb (yAt ranges i) (xAt ranges i)) (ltb (entries ws) (yAt ranges i)) in-list)
+  range-within = in-list .1

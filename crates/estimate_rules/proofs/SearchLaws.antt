@@ -5,7 +5,7 @@ use mathlib.Core.Bool.{Bool, true, false, cond, not}
 use mathlib.Core.List.{List, [], _∷_}
 use mathlib.Core.Logic.{⊎-elim}
 use Prim.Native.Nat.{ℕ, zero, suc, _-_, _≤_, _<_}
-use native.Mathlib.Nat.{eq-or-lt-of-le, le-of-suc-le-suc}
+use native.Mathlib.Nat.{eq-zero-or-pos, eq-or-lt-of-le, le-of-suc-le-suc}
 use native.Mathlib.Omega.{arith}
 use borrow.Author.Tests.{ltb-false, eqb-false, eq-eqb, ne-eqb}
 use lib.Dec.{ltb, eqb}
@@ -56,6 +56,13 @@ module _ (ws ranges : List ℕ) where
   pub search-answered : searchFault ws ranges ≡ 0 → answered (searchEstimate ws ranges) ≡ searchReply ws ranges
   unfolding searchReply
   search-answered e = simp (eq-eqb (searchFault ws ranges) 0 e)
+
+  pub search-taken : searchReply ws ranges .refusal ≡ 0 → searchFault ws ranges ≡ 0
+  search-taken e =
+      ⊎-elim
+      (λ (z : searchFault ws ranges ≡ 0). z)
+      (λ (h : 0 < searchFault ws ranges). absurd (omega (arith, ap (λ (r : Reply). r .refusal) (search-refused _ refl (λ z. omega arith)))))
+      (eq-zero-or-pos (searchFault ws ranges))
 
   module _ (none : searchFault ws ranges ≡ 0) where
     pub search-readable : Readable ws

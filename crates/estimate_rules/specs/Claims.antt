@@ -84,7 +84,7 @@ pub record Searched (ws ranges : List ℕ) : Type 0 where
   -- each range is one that the single call answers, and the sum is that of its answers
   pub each-answered : (i : ℕ) → i < rangeCount ranges → estimateReply ws (xAt ranges i) (yAt ranges i) .refusal ≡ 0
   pub sum-of-singles : searchReply ws ranges ≡ answered (sumOver ranges (λ x y. estimateReply ws x y .value))
-  -- no entry is in two ranges: each ends before any later one starts
+  -- no entry is in two ranges: none starts before one ahead of it ends
   pub apart : (i j : ℕ) → i < j → j < rangeCount ranges → yAt ranges i ≤ xAt ranges j
 
 pub record Searches : Type 0 where

@@ -115,9 +115,9 @@ pub record WorkedSheets : Type 0 where
       ≡ refused 7 ∷ refused 24 ∷ refused 8 ∷ refused 19 ∷ refused 20 ∷ []
 
 -- the four entries of tens, and then so many empty ranges at its end
-abbrev fours : ℕ → List ℕ
-fours zero = 0 ∷ 1 ∷ 1 ∷ 2 ∷ 2 ∷ 3 ∷ 3 ∷ 4 ∷ []
-fours (suc n) = fours n ++ (4 ∷ 4 ∷ [])
+abbrev eachOfTens : ℕ → List ℕ
+eachOfTens zero = 0 ∷ 1 ∷ 1 ∷ 2 ∷ 2 ∷ 3 ∷ 3 ∷ 4 ∷ []
+eachOfTens (suc n) = eachOfTens n ++ (4 ∷ 4 ∷ [])
 
 abbrev inTens : List ℕ → Reply
 inTens ranges = searchReply tens ranges
@@ -126,7 +126,7 @@ pub record WorkedSearches : Type 0 where
   -- one range is answered as by the single call: 17, 26, 40, and 0 for the empty one
   pub one-range : map inTens ((1 ∷ 3 ∷ []) ∷ (0 ∷ 3 ∷ []) ∷ (0 ∷ 4 ∷ []) ∷ (2 ∷ 2 ∷ []) ∷ []) ≡ answered 17 ∷ answered 26 ∷ answered 40 ∷ answered 0 ∷ []
   -- each range is rounded by itself: 17/2 four times, where one sum gives 34
-  pub four-ranges : inTens (fours 0) ≡ answered 36
+  pub four-ranges : inTens (eachOfTens 0) ≡ answered 36
   -- 4/3 twice, and 1 twice where the sum is 0
   pub each-rounded : searchReply thirds (2 ∷ 3 ∷ 3 ∷ 4 ∷ []) ∷ searchReply zeros (0 ∷ 1 ∷ 1 ∷ 2 ∷ 3 ∷ 3 ∷ []) ∷ [] ≡ answered 4 ∷ answered 2 ∷ []
   -- buckets of three: 51/2, 50 and 51/2
@@ -136,8 +136,8 @@ pub record WorkedSearches : Type 0 where
   -- 22: a word left over, whatever it is, or no range
   pub odd : map inTens ((5 ∷ []) ∷ [] ∷ (0 ∷ 1 ∷ 5 ∷ []) ∷ (0 ∷ 1 ∷ 1 ∷ []) ∷ []) ≡ refused 22 ∷ refused 22 ∷ refused 22 ∷ refused 22 ∷ []
   -- sixteen ranges are taken; a seventeenth is not, and 14 is said of it first; nor is a word after the sixteenth
-  pub most : inTens (fours 12) ≡ answered 36
-  pub too-many : inTens (fours 13) ∷ inTens (fours 12 ++ (4 ∷ 5 ∷ [])) ∷ inTens (fours 12 ++ (4 ∷ [])) ∷ [] ≡ refused 22 ∷ refused 14 ∷ refused 22 ∷ []
+  pub most : inTens (eachOfTens 12) ≡ answered 36
+  pub too-many : inTens (eachOfTens 13) ∷ inTens (eachOfTens 12 ++ (4 ∷ 5 ∷ [])) ∷ inTens (eachOfTens 12 ++ (4 ∷ [])) ∷ [] ≡ refused 22 ∷ refused 14 ∷ refused 22 ∷ []
   -- 23, also where a range is empty; one may start where the one ahead of it ends
   pub order :
       map inTens ((0 ∷ 3 ∷ 2 ∷ 4 ∷ []) ∷ (3 ∷ 3 ∷ 2 ∷ 4 ∷ []) ∷ (0 ∷ 4 ∷ 2 ∷ 2 ∷ []) ∷ (0 ∷ 1 ∷ 2 ∷ 4 ∷ 3 ∷ 4 ∷ []) ∷ [])

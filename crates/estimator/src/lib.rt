@@ -12,7 +12,7 @@ use pieces::exact_of;
 use running::fill_fault;
 use running::put_totals;
 use search::search_fault;
-use search::sum_of;
+use search::sum_of_estimates;
 use worksheet::put_answers;
 use worksheet::worksheet_fault;
 ghost use mathlib.Core.Path.{_≡_};
@@ -97,7 +97,7 @@ pub fn estimate_search(words: &[u32], ranges: &[u32]) -> Asked
     if fault != 0 {
         return Asked::Refused(fault);
     }
-    Asked::Estimate(sum_of(words, ranges))
+    Asked::Estimate(sum_of_estimates(words, ranges))
 }
 
 // Writes the running totals into the first places that are lent. Refused with 7, 24, 8 to 12 or 19, it writes nothing.

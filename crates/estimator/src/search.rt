@@ -71,7 +71,7 @@ fn estimate_within(words: &[u32], x: u32, y: u32) -> u64
 }
 
 // The sum of the estimates of all ranges.
-pub(crate) fn sum_of(words: &[u32], ranges: &[u32]) -> u64
+pub(crate) fn sum_of_estimates(words: &[u32], ranges: &[u32]) -> u64
     requires { ⌜ Searchable (now words) (now ranges) ⌝ }
     ensures { λ r. ⌜ r ≡ searchEstimate (now (words .entry)) (now (ranges .entry)) ⌝ }
 {

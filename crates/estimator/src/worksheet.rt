@@ -1,4 +1,4 @@
-// A worksheet of ranges. Each costs two searches and its two cut buckets; for the buckets between them there are the running totals.
+// A worksheet of ranges. Each costs two searches by halving and its two cut buckets; for the buckets between them there are the running totals.
 
 use super::pieces::answer_of;
 use super::pieces::bucket_piece;

@@ -1,6 +1,6 @@
-//! The benchmark: times of the proved calls beside the same algorithms in Rust, of worksheets beside single calls, and
-//! what the histograms are worth beside others of the same size. It measures and fails by no time; that the sides answer
-//! alike is asserted.
+//! The benchmark: times of the proved calls beside the same algorithms in Rust, of searches and worksheets beside
+//! single calls, and what the histograms are worth beside others of the same size. It measures and fails by no time;
+//! that the sides answer alike is asserted.
 
 mod clock;
 mod lists;

@@ -69,8 +69,7 @@ fn search<'a>(proved: &'a dyn Program, case: &'a Case) -> Row<'a> {
 }
 
 fn answer<'a>(proved: &'a dyn Program, case: &'a Case, size: usize) -> Row<'a> {
-    let worksheet: Vec<u32> =
-        ranges(3, case.list.entries(), size).into_iter().flat_map(|(x, y)| [x, y]).collect();
+    let worksheet: Vec<u32> = ranges(3, case.list.entries(), size).into_iter().flat_map(|(x, y)| [x, y]).collect();
     let (totals, single) = (filled(proved, case), worksheet.clone());
     let (pairs, _) = single.as_chunks::<2>();
     let estimates: Vec<u64> = pairs.iter().map(|&[x, y]| proved.estimate(&case.words, x, y).estimate).collect();

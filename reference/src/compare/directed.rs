@@ -33,12 +33,11 @@ impl Comparison<'_> {
         self.lists_directed_at_several();
     }
 
-    /// For each number of ranges and each k, lists are made until one comes near enough.
+    /// For each number of ranges and each k that is aimed at, lists are made until one comes near enough.
     fn lists_directed_at_several(&mut self) {
         let mut random = self.random(16);
-        // A test makes do with the first k.
-        let places = KS.len().min(self.volume.directed / 10);
-        let aims = (2..=MOST_RANGES).flat_map(|ranges| (0..places).map(move |place| (ranges, place)));
+        let places = 0..self.volume.ks_of_several;
+        let aims = (2..=MOST_RANGES).flat_map(|ranges| places.clone().map(move |place| (ranges, place)));
         for ((ranges, place), side) in aims.flat_map(|aim| SIDES.map(|side| (aim, side))) {
             let mut tries = 0..MOST_TRIES;
             while !self.near(ranges, place, side) && tries.next().is_some() {

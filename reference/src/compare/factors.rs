@@ -34,13 +34,13 @@ pub(super) struct Accepted<'a> {
 
 /// A range with its count and its estimate.
 #[derive(Clone, Copy)]
-struct Asked {
+struct Measured {
     range: (u32, u32),
     pair: Pair,
 }
 
-impl Accepted<'_> {
-    pub(super) fn new<'a>(frequencies: &'a [u32], words: &[u32]) -> Accepted<'a> {
+impl<'a> Accepted<'a> {
+    pub(super) fn new(frequencies: &'a [u32], words: &[u32]) -> Accepted<'a> {
         let sums = running_sums(frequencies.iter().map(|&frequency| frequency.into()));
         Accepted { frequencies, sums, histogram: read(words).expect("an accepted histogram reads well") }
     }
@@ -49,30 +49,30 @@ impl Accepted<'_> {
         self.histogram.head.bound
     }
 
-    fn asked(&self, (x, y): (u32, u32)) -> Asked {
+    fn measured(&self, (x, y): (u32, u32)) -> Measured {
         let count = self.sums[y as usize] - self.sums[x as usize];
-        Asked { range: (x, y), pair: Pair { count, estimate: answered(&self.histogram, x, y) } }
+        Measured { range: (x, y), pair: Pair { count, estimate: answered(&self.histogram, x, y) } }
     }
 
     /// Of some ranges the one that uses up most when it is asked many times over, if the rule then speaks of it.
-    fn farthest(&self, all: &[Asked], side: Side) -> Option<Asked> {
+    fn farthest(&self, all: &[Measured], side: Side) -> Option<Measured> {
         let twice = 2 * u64::from(self.bound().theta);
-        let share = |asked: &Asked| {
-            let [count, estimate, twice] = [asked.pair.count, asked.pair.estimate, twice].map(|number| number as f64);
+        let share = |one: &Measured| {
+            let [count, estimate, twice] = [one.pair.count, one.pair.estimate, twice].map(|number| number as f64);
             let factor = match side {
                 Side::Count => count / estimate,
                 Side::Estimate => estimate / count,
             };
             factor * (1.0 - twice / count.max(estimate))
         };
-        let spoken_of = all.iter().filter(|asked| asked.pair.count.max(asked.pair.estimate) > twice);
+        let spoken_of = all.iter().filter(|one| one.pair.count.max(one.pair.estimate) > twice);
         spoken_of.max_by(|a, b| share(a).total_cmp(&share(b))).copied()
     }
 }
 
 /// The rule whose share is kept for so many ranges and one of `KS`.
 fn kept_rule(bound: Bound, ranges: usize, k: u32) -> Rule {
-    let form = if ranges == 1 { Form::Asked } else { Form::Stronger };
+    let form = if ranges == 1 { Form::Asked } else { Form::Shorter };
     Rule { form, bound, ranges: ranges as u64, k: k_of(ranges as u64, k) }
 }
 
@@ -87,21 +87,27 @@ impl Comparison<'_> {
     ) {
         self.counts.accepted += 1;
         let accepted = Accepted::new(frequencies, words);
-        let asked: Vec<Asked> = ranges.into_iter().map(|range| accepted.asked(range)).collect();
-        self.counts.ranges += asked.len() as u64;
-        for one_of_them in asked.chunks_exact(1) {
-            self.rule(one, &accepted, one_of_them);
+        let all: Vec<Measured> = ranges.into_iter().map(|range| accepted.measured(range)).collect();
+        self.counts.ranges += all.len() as u64;
+        for one_of_them in &all {
+            self.rule(one, &accepted, std::slice::from_ref(one_of_them));
         }
-        self.several(several, &accepted, &asked);
+        let mut random = self.random_of_pair(frequencies, words);
+        self.several(&mut random, several, &accepted, &all);
+    }
+
+    /// A stream of its own for each accepted pair too, so that no other pair moves it.
+    fn random_of_pair(&self, frequencies: &[u32], words: &[u32]) -> Random {
+        let numbers = frequencies.iter().chain(words);
+        numbers.fold(self.random(17), |mut random, &number| Random::new(random.word() ^ u64::from(number)))
     }
 
     /// For each number of ranges, and one that no search has, any so many, which may overlap, and the farthest one so
     /// many times.
-    fn several(&mut self, group: Group, accepted: &Accepted, asked: &[Asked]) {
-        let mut random = Random::new(self.seed ^ self.counts.accepted);
-        let farthest = SIDES.map(|side| accepted.farthest(asked, side));
+    fn several(&mut self, random: &mut Random, group: Group, accepted: &Accepted, all: &[Measured]) {
+        let farthest = SIDES.map(|side| accepted.farthest(all, side));
         for number in (2..=MOST_RANGES).chain([100]) {
-            let any: Vec<Asked> = (0..number).map(|_| random.pick(asked)).collect();
+            let any: Vec<Measured> = (0..number).map(|_| random.pick(all)).collect();
             self.sum(group, accepted, &any);
             for one in farthest.into_iter().flatten() {
                 self.sum(group, accepted, &vec![one; number]);
@@ -109,28 +115,28 @@ impl Comparison<'_> {
         }
     }
 
-    fn sum(&mut self, group: Group, accepted: &Accepted, asked: &[Asked]) {
+    fn sum(&mut self, group: Group, accepted: &Accepted, summed: &[Measured]) {
         self.counts.sums += 1;
-        self.rule(group, accepted, asked);
+        self.rule(group, accepted, summed);
     }
 
     /// The rule on the ranges of a search.
     pub(super) fn rule_for_search(&mut self, group: Group, accepted: &Accepted, ranges: &[(u32, u32)]) {
-        let asked: Vec<Asked> = ranges.iter().map(|&range| accepted.asked(range)).collect();
-        self.sum(group, accepted, &asked);
+        let all: Vec<Measured> = ranges.iter().map(|&range| accepted.measured(range)).collect();
+        self.sum(group, accepted, &all);
     }
 
-    fn rule(&mut self, group: Group, accepted: &Accepted, asked: &[Asked]) {
+    fn rule(&mut self, group: Group, accepted: &Accepted, summed: &[Measured]) {
         let bound = accepted.bound();
-        let pair: Pair = asked.iter().map(|asked| asked.pair).sum();
+        let pair: Pair = summed.iter().map(|one| one.pair).sum();
         let text = || {
             let Pair { count, estimate } = pair;
-            let ranges: Vec<String> = asked.iter().map(|Asked { range: (x, y), .. }| format!("{x}..{y}")).collect();
+            let ranges: Vec<String> = summed.iter().map(|Measured { range: (x, y), .. }| format!("{x}..{y}")).collect();
             format!("{count} estimated {estimate}, {} of {}, {bound}", shown(&ranges), shown(accepted.frequencies))
         };
-        let failing = broken_rule(bound, asked.len() as u64, pair);
+        let failing = broken_rule(bound, summed.len() as u64, pair);
         self.note(group, failing.map(|rule| format!("{:?} k {}: {}", rule.form, rule.k, text())));
-        self.keep_largest(asked.len(), pair, bound, text);
+        self.keep_largest(summed.len(), pair, bound, text);
     }
 
     fn keep_largest(&mut self, ranges: usize, pair: Pair, bound: Bound, text: impl Fn() -> String) {

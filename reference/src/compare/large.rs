@@ -230,8 +230,7 @@ impl Comparison<'_> {
             self.estimate(EstimateLarge, &words, range);
         }
         self.check(CheckLarge, &[1; 8_190], &words);
-        if self.volume.wide > 0 {
-            // Accepted, so that every range is tried.
+        if self.volume.widest_accepted {
             self.check(CheckLarge, &[131_071; 8_190], &words);
         }
         let long = vec![0; 1_000_000];

@@ -12,6 +12,7 @@ mod small;
 mod worksheets;
 mod zeros;
 
+use crate::demand::KS;
 use crate::generate::slips::LAST_QD;
 use crate::generate::Random;
 use crate::program::Program;
@@ -116,15 +117,15 @@ groups! {
     DemandZeros: "demand 3: lists with zeros",
     DemandSlips: "demand 3: q about 8",
     DemandNear: "demand 3: directed lists tell k - 2 from k - 1",
-    SumsBuilt: "demand 3 for r ranges: built histograms",
-    SumsForeign: "demand 3 for r ranges: foreign histograms",
-    SumsDirected: "demand 3 for r ranges: directed lists",
-    SumsLarge: "demand 3 for r ranges: wide and large lists",
-    SumsReal: "demand 3 for r ranges: real lists",
-    SumsZeros: "demand 3 for r ranges: lists with zeros",
-    SumsSlips: "demand 3 for r ranges: q about 8",
-    SumsSearches: "demand 3 for r ranges: the ranges of a search",
-    SumsNear: "demand 3 for r ranges: directed lists tell k - 2r from k - 2r + 1",
+    SumsBuilt: "the rule for r ranges: built histograms",
+    SumsForeign: "the rule for r ranges: foreign histograms",
+    SumsDirected: "the rule for r ranges: directed lists",
+    SumsLarge: "the rule for r ranges: wide and large lists",
+    SumsReal: "the rule for r ranges: real lists",
+    SumsZeros: "the rule for r ranges: lists with zeros",
+    SumsSlips: "the rule for r ranges: q about 8",
+    SumsSearches: "the rule for r ranges: the ranges of a search",
+    SumsNear: "the rule for r ranges: directed lists tell k - 2r from k - 2r + 1",
 }
 
 /// The groups that one kind of histogram is asked in.
@@ -145,8 +146,13 @@ pub struct Volume {
     /// The most entries of the lists that are all tried.
     pub tiny: u32,
     pub wide: usize,
+    /// Whether a list of the widest bucketlets that is accepted is checked: to try its 33 million ranges takes a third
+    /// as long as all the rest of a test.
+    pub widest_accepted: bool,
     pub longest: usize,
     pub directed: usize,
+    /// How many of `KS`, from the first on, lists are directed at for several ranges.
+    pub ks_of_several: usize,
     pub sheets: usize,
     /// The last qd beside which each q about 8 is tried.
     pub last_qd: u32,
@@ -158,15 +164,27 @@ impl Volume {
         small: 20_000,
         tiny: 5,
         wide: 80,
+        widest_accepted: true,
         longest: 65_536,
         directed: 300,
+        ks_of_several: KS.len(),
         sheets: 3_000,
         last_qd: LAST_QD,
     };
 
     /// Enough to find the known faults in a test.
-    pub const QUICK: Volume =
-        Volume { codings: 3_000, small: 150, tiny: 3, wide: 0, longest: 600, directed: 10, sheets: 120, last_qd: 4 };
+    pub const QUICK: Volume = Volume {
+        codings: 3_000,
+        small: 150,
+        tiny: 3,
+        wide: 0,
+        widest_accepted: false,
+        longest: 600,
+        directed: 10,
+        ks_of_several: 1,
+        sheets: 120,
+        last_qd: 4,
+    };
 }
 
 #[derive(Clone, Copy, Debug, Default)]

@@ -19,7 +19,7 @@ use crate::words::{read, write};
 /// Longer lists are not repeated every number of times.
 const SHORT: usize = 500;
 
-/// Short lists, with how many ranges one of their searches has that is given every two faults.
+/// Short lists. One search of each is given every two faults; the number is how many ranges it has.
 const SHORT_LISTS: [(&[u32], usize); 4] =
     [(&[10; 4], 3), (&[0, 0, 5], 2), (&[1, 100, 1, 100, 1, 100, 1, 100, 1], MOST_RANGES), (&[1], 1)];
 
@@ -176,7 +176,8 @@ impl Comparison<'_> {
         }
     }
 
-    /// Every two faults with different refusals. The first is made last, since it may leave too little for the second.
+    /// Every two faults with different refusals that are not both of the words. The first is made last, since it may
+    /// leave too little for the second.
     fn two_faults_of_search(&mut self, good: &Search) {
         for (place, first) in FAULTS.iter().enumerate() {
             for second in FAULTS[place + 1..].iter().flat_map(|second| second(good)) {

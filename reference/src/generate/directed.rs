@@ -141,7 +141,7 @@ fn assemble(cuts: [&Cut; 2], middles: &[Middle], bound: Bound, apart: bool) -> O
     Some(Directed { frequencies, histogram: Histogram::new(bound, buckets), x, y })
 }
 
-/// One list aimed at a k of so many ranges, each of them the range that is aimed at, by chance near the bound or nearer.
+/// One list aimed at a k of r ranges, which are the same range r times, by chance near the bound or nearer.
 pub fn directed(random: &mut Random, side: Side, ranges: u64, k: u32) -> Directed {
     let k = k_of(ranges, k);
     loop {

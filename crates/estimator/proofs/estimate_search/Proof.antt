@@ -20,8 +20,8 @@ returns c =
 passed : (c : tie.Else1) → let a = c .before .before .before .before .args in searchFault (a .words .now) (a .ranges .now) ≡ 0
 passed c = omega (arith, c .before .search-fault .ensures)
 
-sum-of-requires : tie.Need-sum-of-requires
-sum-of-requires c κs =
+sum-of-estimates-requires : tie.Need-sum-of-estimates-requires
+sum-of-estimates-requires c κs =
     let a = c .before .before .before .before .args in
     let n = passed c in
     record {
@@ -33,7 +33,7 @@ sum-of-requires c κs =
 returns-2 : tie.Need-returns-2
 returns-2 c =
     let a = c .before .before .before .before .before .args in
-    answered-case Estimate Refused _ _ (ap answered (c .sum-of .ensures) ∙ search-answered (a .words .now) (a .ranges .now) (passed (c .before)))
+    answered-case Estimate Refused _ _ (ap answered (c .sum-of-estimates .ensures) ∙ search-answered (a .words .now) (a .ranges .now) (passed (c .before)))
 
 pub estimate-search-spec : {M : Type 1} → statement M
-estimate-search-spec = tie.close (tie.spec (λ c κs. search needs) returns sum-of-requires returns-2)
+estimate-search-spec = tie.close (tie.spec (λ c κs. search needs) returns sum-of-estimates-requires returns-2)

@@ -16,7 +16,7 @@ pub record WithTotals (ws totals : List ℕ) : Type 0 where
   pub enough : totalPlaces ws ≤ length totals
   pub right : totalsFault ws totals ≡ false
 
--- these and a worksheet that is answered, with room for its answers
+-- these and a worksheet of ranges within the list, with room for their answers
 pub record Answerable (ws totals sheet : List ℕ) (lent : ℕ) : Type 0 where
   pub with-totals : WithTotals ws totals
   pub in-list : someRefused ws sheet ≡ false

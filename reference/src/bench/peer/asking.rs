@@ -1,5 +1,6 @@
-//! The estimator: one pass over the words that a range meets in 64 bits, rounded up once, and at least 1; searches, which
-//! add up such estimates; and worksheets, where the running totals stand for the buckets between the ends of a range.
+//! The estimator: the buckets that a range meets, summed in 64 bits and rounded up once, and at least 1; searches,
+//! which add up such estimates; and worksheets, where the running totals stand for the buckets between the ends of a
+//! range.
 
 use super::coding::{class_number, code_number};
 use super::reading::{bucket_of, decode, read, start_of, total_of, Five};

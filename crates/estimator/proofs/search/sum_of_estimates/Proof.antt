@@ -1,4 +1,4 @@
--- `estimator::search::sum_of` meets its contract. At the loop the estimates of the ranges before i are summed.
+-- `estimator::search::sum_of_estimates` meets its contract. At the loop the estimates of the ranges before i are summed.
 -- Assumes nothing.
 use mathlib.Core.Path.{_≡_, refl, ap, _∙_}
 use Prim.Native.Nat.{ℕ, suc, _+_, _-_, _≤_}
@@ -12,8 +12,8 @@ use Rattle.estimate_rules.specs.Ranges.{rangeCount}
 use Rattle.estimate_rules.specs.Worksheet.{answerAt}
 use Rattle.estimate_rules.proofs.RangesLaws.{range-ordered, range-within}
 use Rattle.estimate_rules.proofs.Proved.{sum-small}
-use Rattle.estimator.proofs.search.sum_of.Statement.{statement}
-use Rattle.estimator.proofs.search.sum_of.Tie as tie
+use Rattle.estimator.proofs.search.sum_of_estimates.Statement.{statement}
+use Rattle.estimator.proofs.search.sum_of_estimates.Tie as tie
 
 abbrev Inv-loop : tie.InvT-loop
 Inv-loop words ranges count sum₀ i₀ sum′ i = (i ≤ rangeCount ranges) × (sum′ ≡ sum (tabulate i (answerAt words ranges)))
@@ -75,8 +75,8 @@ returns c =
     let all : l .i ≡ rangeCount (a .ranges .now) = omega (arith, l .inv .0) in
     l .inv .1 ∙ ap (λ (n : ℕ). sum (tabulate n (answerAt (a .words .now) (a .ranges .now)))) all
 
-pub sum-of-spec : {M : Type 1} → statement M
-sum-of-spec =
+pub sum-of-estimates-spec : {M : Type 1} → statement M
+sum-of-estimates-spec =
     tie.close
     (tie.spec
     Inv-loop

@@ -1,4 +1,4 @@
--- A count and the fraction that estimates it, as the two numbers of the lemma (Parts.antt) over the fraction's bottom: such pairs add up, and
+-- A count and the fraction that estimates it, as the two numbers of the lemma (ButFor.antt) over the fraction's bottom: such pairs add up, and
 -- rounding the fraction up costs less than one. Assumes nothing.
 use mathlib.Core.Path.{_≡_, refl, ap}
 use mathlib.Core.Logic.{_⊎_, inl, inr, ⊎-elim}
@@ -9,42 +9,42 @@ use Rattle.estimate_rules.specs.declared.Fraction.{Fraction}
 use Rattle.estimate_rules.specs.Fraction.{nothing, plus, rounded, numerator}
 use Rattle.estimate_rules.proofs.FractionLaws.{rounded-reaches, rounded-tight}
 use Rattle.accuracy.specs.Claims.{Within}
-use Rattle.accuracy.proofs.Parts.{Parts, Factor, factor, parts-more, parts-scale, parts-add}
+use Rattle.accuracy.proofs.ButFor.{ButFor, Factor, factor, but-for-more, but-for-scale, but-for-add}
 use Rattle.accuracy.proofs.Ranges.{Adding}
 
-pub record Split (pn pd theta m f : ℕ) (e : Fraction) : Type 0 where
+pub record Close (pn pd theta m f : ℕ) (e : Fraction) : Type 0 where
   pub positive : 0 < e .bottom
-  pub parts : Parts pn pd (theta * e .bottom) m (f * e .bottom) (numerator e)
+  pub but-for : ButFor pn pd (theta * e .bottom) m (f * e .bottom) (numerator e)
 
 module _ (pn pd theta : ℕ) where
   -- within p
-  pub split-near : (f : ℕ) (e : Fraction) → 0 < e .bottom → pd * (f * e .bottom) ≤ pn * numerator e → pd * numerator e ≤ pn * (f * e .bottom)
-      → Split pn pd theta 0 f e
-  split-near f e p h k =
-      record { positive = p; parts = record { f-over = omega (arith, h); v-over = omega (arith, k) } }
+  pub close-near : (f : ℕ) (e : Fraction) → 0 < e .bottom → pd * (f * e .bottom) ≤ pn * numerator e → pd * numerator e ≤ pn * (f * e .bottom)
+      → Close pn pd theta 0 f e
+  close-near f e p h k =
+      record { positive = p; but-for = record { f-over = omega (arith, h); v-over = omega (arith, k) } }
 
   -- both at most theta
-  pub split-small : (f : ℕ) (e : Fraction) → 0 < e .bottom → f ≤ theta → numerator e ≤ theta * e .bottom → Split pn pd theta 1 f e
-  split-small f e p h k =
+  pub close-small : (f : ℕ) (e : Fraction) → 0 < e .bottom → f ≤ theta → numerator e ≤ theta * e .bottom → Close pn pd theta 1 f e
+  close-small f e p h k =
       record {
         positive = p;
-        parts = record { f-over = omega (arith, mul-le-mul-left pd (mul-le-mul-right (e .bottom) h)); v-over = omega (arith, mul-le-mul-left pd k) };
+        but-for = record { f-over = omega (arith, mul-le-mul-left pd (mul-le-mul-right (e .bottom) h)); v-over = omega (arith, mul-le-mul-left pd k) };
       }
 
-  pub split-nothing : Split pn pd theta 0 0 nothing
-  split-nothing = split-near 0 nothing (omega arith) (omega arith) (omega arith)
+  pub close-nothing : Close pn pd theta 0 0 nothing
+  close-nothing = close-near 0 nothing (omega arith) (omega arith) (omega arith)
 
-module _ {pn pd theta m f : ℕ} {e : Fraction} (s : Split pn pd theta m f e) where
-  pub split-more : (n : ℕ) → m ≤ n → Split pn pd theta n f e
-  split-more n h = record { positive = s .positive; parts = parts-more (s .parts) n h }
+module _ {pn pd theta m f : ℕ} {e : Fraction} (s : Close pn pd theta m f e) where
+  pub close-more : (n : ℕ) → m ≤ n → Close pn pd theta n f e
+  close-more n h = record { positive = s .positive; but-for = but-for-more (s .but-for) n h }
 
   -- the same count and the same fraction, in other words
-  pub split-as : (g : ℕ) (d : Fraction) → g ≡ f → d ≡ e → Split pn pd theta m g d
-  split-as g d p q = rw (p, q) s
+  pub close-as : (g : ℕ) (d : Fraction) → g ≡ f → d ≡ e → Close pn pd theta m g d
+  close-as g d p q = rw (p, q) s
 
   -- the lemma, for the fraction rounded up
-  pub split-within : (k : ℕ) → 0 < pd → pd ≤ pn → m < k → (k * theta < f) ⊎ (k * theta < rounded e) → Within (pn * k) (pd * (k - m)) 1 f (rounded e)
-  split-within k p h l r =
+  pub close-within : (k : ℕ) → 0 < pd → pd ≤ pn → m < k → (k * theta < f) ⊎ (k * theta < rounded e) → Within (pn * k) (pd * (k - m)) 1 f (rounded e)
+  close-within k p h l r =
       record {
         count-within = le-of-mul-le-mul-right {k = e .bottom} (omega (arith, w .f-within, mul-le-mul-right (pn * k) up)) (s .positive);
         answer-within = below (rounded e) refl;
@@ -64,7 +64,7 @@ module _ {pn pd theta m f : ℕ} {e : Fraction} (s : Split pn pd theta m f e) wh
           r
 
       w : Factor (pn * k) (pd * (k - m)) (pd * m * 0) (f * e .bottom) (numerator e)
-      w = factor (s .parts) k 0 h (omega arith) reached
+      w = factor (s .but-for) k 0 h (omega arith) reached
 
       -- a count above 0 where the answer is 0
       counted : (k * theta < f) ⊎ (k * theta < rounded e) → rounded e ≡ 0 → 0 < f
@@ -78,21 +78,21 @@ module _ {pn pd theta m f : ℕ} {e : Fraction} (s : Split pn pd theta m f e) wh
           let one : suc n - 1 ≡ n = omega arith in
           rw one (lt-of-mul-lt-mul-right (e .bottom) {m = pd * (k - m) * n} (omega (arith, w .v-within, mul-lt-mul-of-pos-right less some)))
 
-split-add : {pn pd theta m₁ m₂ f₁ f₂ : ℕ} {e₁ e₂ : Fraction} → Split pn pd theta m₁ f₁ e₁ → Split pn pd theta m₂ f₂ e₂
-    → Split pn pd theta (m₁ + m₂) (f₁ + f₂) (plus e₁ e₂)
-split-add {pn} {pd} {theta} {m₁} {m₂} {f₁} {f₂} {e₁} {e₂} s₁ s₂ =
+close-add : {pn pd theta m₁ m₂ f₁ f₂ : ℕ} {e₁ e₂ : Fraction} → Close pn pd theta m₁ f₁ e₁ → Close pn pd theta m₂ f₂ e₂
+    → Close pn pd theta (m₁ + m₂) (f₁ + f₂) (plus e₁ e₂)
+close-add {pn} {pd} {theta} {m₁} {m₂} {f₁} {f₂} {e₁} {e₂} s₁ s₂ =
     record {
       positive = mul-pos (s₁ .positive) (s₂ .positive);
-      parts =
+      but-for =
           same (omega arith) (omega arith) (omega arith)
-          (parts-add (parts-scale (s₁ .parts) (e₂ .bottom)) (same {t = theta * e₂ .bottom * e₁ .bottom} (omega arith) refl refl (parts-scale (s₂ .parts) (e₁ .bottom))));
+          (but-for-add (but-for-scale (s₁ .but-for) (e₂ .bottom)) (same {t = theta * e₂ .bottom * e₁ .bottom} (omega arith) refl refl (but-for-scale (s₂ .but-for) (e₁ .bottom))));
     }
   where
-    same : {m t t′ f f′ v v′ : ℕ} → t ≡ t′ → f ≡ f′ → v ≡ v′ → Parts pn pd t m f v → Parts pn pd t′ m f′ v′
+    same : {m t t′ f f′ v v′ : ℕ} → t ≡ t′ → f ≡ f′ → v ≡ v′ → ButFor pn pd t m f v → ButFor pn pd t′ m f′ v′
     same p q r h = rw (← p, ← q, ← r) h
 
-pub split-adds : (pn pd theta : ℕ) → Adding (Split pn pd theta)
-split-adds pn pd theta = record { none = split-nothing pn pd theta; more = λ m n f e h s. split-more s n h; add = λ m n f g d e s t. split-add s t }
+pub close-adds : (pn pd theta : ℕ) → Adding (Close pn pd theta)
+close-adds pn pd theta = record { none = close-nothing pn pd theta; more = λ m n f e h s. close-more s n h; add = λ m n f g d e s t. close-add s t }
 
 -- ---- a whole number that the fraction does not pass: each of its cuts rounded up by itself
 
@@ -104,23 +104,23 @@ pub record Capped (pn pd theta m f : ℕ) (e : Fraction) : Type 0 where
 
 module _ (pn pd theta : ℕ) where
   -- a whole number
-  pub capped-whole : (f : ℕ) (e : Fraction) → e .top ≡ 0 → Split pn pd theta 0 f e → Capped pn pd theta 0 f e
+  pub capped-whole : (f : ℕ) (e : Fraction) → e .top ≡ 0 → Close pn pd theta 0 f e → Capped pn pd theta 0 f e
   capped-whole f e z s =
       record {
         cap = e .whole;
         reached = omega arith;
-        under = le-of-mul-le-mul-right {k = e .bottom} (omega (arith, s .parts .v-over, ap (λ (t : ℕ). pd * t) z)) (s .positive);
+        under = le-of-mul-le-mul-right {k = e .bottom} (omega (arith, s .but-for .v-over, ap (λ (t : ℕ). pd * t) z)) (s .positive);
       }
 
   -- a cut that is not excused
-  pub capped-near : (f : ℕ) (e : Fraction) → 1 ≤ theta → Split pn pd theta 0 f e → Capped pn pd theta 1 f e
+  pub capped-near : (f : ℕ) (e : Fraction) → 1 ≤ theta → Close pn pd theta 0 f e → Capped pn pd theta 1 f e
   capped-near f e h s =
       record {
         cap = rounded e;
         reached = rounded-reaches e (s .positive);
         under =
             le-of-mul-le-mul-right {k = e .bottom}
-            (omega (arith, s .parts .v-over, mul-le-mul-left pd (le-of-lt (rounded-tight e (s .positive))), mul-le-mul-right (pd * e .bottom) h)) (s .positive);
+            (omega (arith, s .but-for .v-over, mul-le-mul-left pd (le-of-lt (rounded-tight e (s .positive))), mul-le-mul-right (pd * e .bottom) h)) (s .positive);
       }
 
   -- and one that is

@@ -8,7 +8,7 @@ use Prim.Native.Nat.{ℕ, _+_, _-_, _*_, _≤_}
 use native.Mathlib.Nat.{mul-le-mul-left, mul-le-mul-right, sub-add-cancel}
 use native.Mathlib.Omega.{arith}
 
-pub record Parts (pn pd t m f v : ℕ) : Type 0 where
+pub record ButFor (pn pd t m f v : ℕ) : Type 0 where
   pub f-over : pd * f ≤ pn * v + pd * (m * t)
   pub v-over : pd * v ≤ pn * f + pd * (m * t)
 
@@ -39,7 +39,7 @@ module _ (pn pd t m a b : ℕ) (over : pd * a ≤ pn * b + pd * (m * t)) (k s : 
   one-side : (k * t + s ≤ a) ⊎ (k * t + s ≤ b) → pd * (k - m) * a + pd * m * s ≤ pn * k * b
   one-side = ⊎-elim by-a by-b
 
-module _ {pn pd t m f v : ℕ} (p : Parts pn pd t m f v) where
+module _ {pn pd t m f v : ℕ} (p : ButFor pn pd t m f v) where
   pub factor : (k s : ℕ) → pd ≤ pn → m ≤ k → (k * t + s ≤ f) ⊎ (k * t + s ≤ v) → Factor (pn * k) (pd * (k - m)) (pd * m * s) f v
   factor k s h l r =
       record {
@@ -54,15 +54,15 @@ module _ {pn pd t m f v : ℕ} (p : Parts pn pd t m f v) where
       record { f-within = omega (arith, p .f-over); v-within = omega (arith, p .v-over) }
 
   -- more may be excused
-  pub parts-more : (n : ℕ) → m ≤ n → Parts pn pd t n f v
-  parts-more n h =
+  pub but-for-more : (n : ℕ) → m ≤ n → ButFor pn pd t n f v
+  but-for-more n h =
       let more = mul-le-mul-left pd (mul-le-mul-right t h) in
       record { f-over = omega (arith, p .f-over, more); v-over = omega (arith, p .v-over, more) }
 
   -- all times a number
-  pub parts-scale : (d : ℕ) → Parts pn pd (t * d) m (f * d) (v * d)
-  parts-scale d = record { f-over = omega (arith, mul-le-mul-right d (p .f-over)); v-over = omega (arith, mul-le-mul-right d (p .v-over)) }
+  pub but-for-scale : (d : ℕ) → ButFor pn pd (t * d) m (f * d) (v * d)
+  but-for-scale d = record { f-over = omega (arith, mul-le-mul-right d (p .f-over)); v-over = omega (arith, mul-le-mul-right d (p .v-over)) }
 
 -- two pairs added
-pub parts-add : {pn pd t m₁ m₂ f₁ f₂ v₁ v₂ : ℕ} → Parts pn pd t m₁ f₁ v₁ → Parts pn pd t m₂ f₂ v₂ → Parts pn pd t (m₁ + m₂) (f₁ + f₂) (v₁ + v₂)
-parts-add p q = record { f-over = omega (arith, p .f-over, q .f-over); v-over = omega (arith, p .v-over, q .v-over) }
+pub but-for-add : {pn pd t m₁ m₂ f₁ f₂ v₁ v₂ : ℕ} → ButFor pn pd t m₁ f₁ v₁ → ButFor pn pd t m₂ f₂ v₂ → ButFor pn pd t (m₁ + m₂) (f₁ + f₂) (v₁ + v₂)
+but-for-add p q = record { f-over = omega (arith, p .f-over, q .f-over); v-over = omega (arith, p .v-over, q .v-over) }
