@@ -34,7 +34,7 @@ module _ (fs ws : List ℕ) (d theta qn qd : ℕ) where
           v-over = omega (arith, sums-within (rangeCount ranges) qd qn (qd * (2 * theta)) answerFor countFor (λ i l. at i l .v-over));
         }
 
-    -- no range has neither count nor answer
+    -- a list of no range has neither count nor answer
     some-range : (t : ℕ) → (t < countOf fs ranges) ⊎ (t < answerOf ws ranges) → 0 < rangeCount ranges
     some-range t r =
         ⊎-elim
