@@ -1,5 +1,8 @@
 //! What request (ii) of document 02 makes of a search of several ranges, in numbers.
 
+mod common;
+
+use common::{words, EXAMPLE, FOUR_TENS, WORD_FAULTS};
 use reference::build::{histogram, Way};
 use reference::check::{check, Verdict};
 use reference::demand::{broken_rule, strictest, Form, Pair, Rule, Side, FORMS, SIDES};
@@ -15,26 +18,6 @@ use reference::search::{estimate_search, MOST_RANGES};
 use reference::words::{write, Bucket, Histogram};
 use reference::worksheet::pairs;
 use std::collections::BTreeSet;
-
-/// Theta 1, q 3/2: that of most examples.
-const EXAMPLE: Bound = Bound::new(1, 3, 2);
-
-const FOUR_TENS: [u32; 9] = [4, 1, 0xC02, 1, 0x40000204, 0x8B000000, 0x80000500, 0xC0000000, 0xC0000000];
-
-/// Place, word and number of a fault, one for each number that words are refused with, in the order of the tests.
-const WORD_FAULTS: [(usize, u32, u32); 7] = [
-    (0, 0, 7),
-    (2, 9 << 10 | 1, 24),
-    (3, 2, 8),
-    (5, 0x4B000000, 9),
-    (4, 0x40000604, 10),
-    (8, 0xC0000001, 11),
-    (5, 0xBF000000, 12),
-];
-
-fn words(frequencies: &[u32]) -> Vec<u32> {
-    write(&histogram(Way::Rule, frequencies, EXAMPLE).expect("a good list"))
-}
 
 #[track_caller]
 fn expect(words: &[u32], answers: &[(&[u32], Result<u64, u32>)]) {

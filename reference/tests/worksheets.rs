@@ -1,5 +1,8 @@
 //! What request (i) of document 02 makes of running totals and worksheets, in numbers.
 
+mod common;
+
+use common::{words, EXAMPLE, FOUR_TENS, WORD_FAULTS};
 use reference::build::{histogram, Way};
 use reference::coding::code_for;
 use reference::estimate::estimate;
@@ -9,30 +12,10 @@ use reference::generate::lists::{bound, some_list, KINDS};
 use reference::generate::ranges::{all_ranges, ranges_about_edges};
 use reference::generate::worksheets::{Worksheet, FAULTS};
 use reference::generate::Random;
-use reference::list::{Bound, MOST_ENTRIES};
+use reference::list::MOST_ENTRIES;
 use reference::words::{write, Bucket, Histogram};
 use reference::worksheet::{answer_worksheet, fill_totals, running_totals};
 use std::collections::BTreeSet;
-
-/// Theta 1, q 3/2: that of most examples.
-const EXAMPLE: Bound = Bound::new(1, 3, 2);
-
-const FOUR_TENS: [u32; 9] = [4, 1, 0xC02, 1, 0x40000204, 0x8B000000, 0x80000500, 0xC0000000, 0xC0000000];
-
-/// Place, word and number of a fault, one for each number that words are refused with, in the order of the tests.
-const WORD_FAULTS: [(usize, u32, u32); 7] = [
-    (0, 0, 7),
-    (2, 9 << 10 | 1, 24),
-    (3, 2, 8),
-    (5, 0x4B000000, 9),
-    (4, 0x40000604, 10),
-    (8, 0xC0000001, 11),
-    (5, 0xBF000000, 12),
-];
-
-fn words(frequencies: &[u32]) -> Vec<u32> {
-    write(&histogram(Way::Rule, frequencies, EXAMPLE).expect("a good list"))
-}
 
 /// What a call answers with so many places lent, and the places it wrote; it may touch no other.
 fn lent(lent: usize, call: impl FnOnce(&mut [u64]) -> Result<usize, u32>) -> Result<Vec<u64>, u32> {
