@@ -10,6 +10,7 @@ use native.Mathlib.Omega.{arith}
 use borrow.Author.Tests.{ltb-false, le-ltb, eqb-true, eqb-false, eq-eqb, ne-eqb}
 use lib.Dec.{ltb, eqb}
 use Rattle.laws.specs.Reply.{answered, refused}
+use Rattle.laws.proofs.ReplyLaws.{reply-refused, reply-answered}
 use Rattle.laws.proofs.Tests.{neither, neither-left, neither-right}
 use Rattle.laws.proofs.RefusalLaws.{numbered, none-left, passed, none-true, append-passed, append-refused, append-first, refused as refused-at}
 use Rattle.words_rules.specs.Words.{entries}
@@ -86,13 +87,13 @@ module _ (ws : List ℕ) (x y : ℕ) where
       (none-true (record { number = 14; holds = rangeFault ws x y } ∷ []) refl
       (sym (append-passed (readSentences ws) (record { number = 14; holds = rangeFault ws x y } ∷ []) refl (asked-readable e)) ∙ e) .0)
 
-  pub reply-refused : (askFault ws x y ≡ 0 → ⊥) → estimateReply ws x y ≡ refused (askFault ws x y)
+  pub asked-refused : (n : ℕ) → n ≡ askFault ws x y → (n ≡ 0 → ⊥) → refused n ≡ estimateReply ws x y
   unfolding estimateReply
-  reply-refused h = ap (λ (t : Bool). cond t (answered (estimate ws x y)) (refused (askFault ws x y))) (ne-eqb (askFault ws x y) 0 h)
+  asked-refused = reply-refused (askFault ws x y) (estimate ws x y)
 
-  pub reply-answered : askFault ws x y ≡ 0 → estimateReply ws x y ≡ answered (estimate ws x y)
+  pub asked-answered : askFault ws x y ≡ 0 → answered (estimate ws x y) ≡ estimateReply ws x y
   unfolding estimateReply
-  reply-answered e = ap (λ (t : Bool). cond t (answered (estimate ws x y)) (refused (askFault ws x y))) (eq-eqb (askFault ws x y) 0 e)
+  asked-answered = reply-answered (askFault ws x y) (estimate ws x y)
 
 module _ (ws : List ℕ) (x y : ℕ) (readable : Readable ws) (ordered : x ≤ y) (ends : y ≤ entries ws) where
   in-list : rangeFault ws x y ≡ false
@@ -103,4 +104,4 @@ module _ (ws : List ℕ) (x y : ℕ) (readable : Readable ws) (ordered : x ≤ y
   no-fault = range-passed ws x y readable in-list
 
   pub reply-is : estimateReply ws x y ≡ answered (estimate ws x y)
-  reply-is = reply-answered ws x y no-fault
+  reply-is = sym (asked-answered ws x y no-fault)

@@ -88,9 +88,13 @@ unfolding estimate
 never-0 ws x y h = omega (arith, raised-some x y (rounded (exact ws x y)) (λ e. omega arith))
 
 module _ (ws : List ℕ) (readable : Readable ws) (x : ℕ) where
-  pub none : estimate ws x x ≡ 0
+  none : estimate ws x x ≡ 0
   unfolding exact estimate rounded
   none = raised-empty x x (rounded (exact ws x x)) refl ∙ ap rounded (sum-none (buckets ws) (bucketPiece ws x x) (λ b h. bucket-none ws readable x x b h (omega arith)))
+
+  -- with its two ends as they are in hand
+  pub estimate-empty : (y : ℕ) → x ≡ y → 0 ≡ estimate ws x y
+  estimate-empty y e = sym none ∙ ap (estimate ws x) e
 
   empty : x ≤ entries ws → estimateReply ws x x ≡ answered 0
   empty h = reply-is ws x x readable (omega arith) h ∙ ap answered none

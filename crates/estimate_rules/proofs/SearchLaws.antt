@@ -7,7 +7,7 @@ use mathlib.Core.Logic.{⊎-elim}
 use Prim.Native.Nat.{ℕ, zero, suc, _-_, _≤_, _<_}
 use native.Mathlib.Nat.{eq-zero-or-pos, eq-or-lt-of-le, le-of-suc-le-suc}
 use native.Mathlib.Omega.{arith}
-use borrow.Author.Tests.{ltb-false, eqb-false, eq-eqb, ne-eqb}
+use borrow.Author.Tests.{ltb-false, eqb-false}
 use lib.Dec.{ltb, eqb}
 use Rattle.laws.specs.Each.{each, some}
 use Rattle.laws.specs.Refusal.{refusal}
@@ -15,6 +15,7 @@ use Rattle.laws.specs.Reply.{Reply, answered, refused}
 use Rattle.laws.specs.Sums.{sum}
 use Rattle.laws.proofs.EachLaws.{none-at}
 use Rattle.laws.proofs.RefusalLaws.{numbered, none-left, passed, refused as refused-at, none-true, refusal-append, append-passed, append-refused, append-first}
+use Rattle.laws.proofs.ReplyLaws.{reply-refused, reply-answered}
 use Rattle.laws.proofs.TabulateLaws.{tabulate-same}
 use Rattle.laws.proofs.Tests.{neither-left, neither-right}
 use Rattle.words_rules.specs.Reading.{readSentences, readFault, Readable}
@@ -51,11 +52,11 @@ module _ (ws ranges : List ℕ) where
 
   pub search-refused : (n : ℕ) → n ≡ searchFault ws ranges → (n ≡ 0 → ⊥) → refused n ≡ searchReply ws ranges
   unfolding searchReply
-  search-refused n e z = let f = ne-eqb (searchFault ws ranges) 0 (λ p. z (e ∙ p)) in simp f (ap refused e)
+  search-refused = reply-refused (searchFault ws ranges) (searchEstimate ws ranges)
 
   pub search-answered : searchFault ws ranges ≡ 0 → answered (searchEstimate ws ranges) ≡ searchReply ws ranges
   unfolding searchReply
-  search-answered e = simp (eq-eqb (searchFault ws ranges) 0 e)
+  search-answered = reply-answered (searchFault ws ranges) (searchEstimate ws ranges)
 
   pub search-taken : searchReply ws ranges .refusal ≡ 0 → searchFault ws ranges ≡ 0
   search-taken e =
@@ -95,12 +96,9 @@ module _ (ws ranges : List ℕ) where
     apart i zero h l = absurd (omega arith)
     apart i (suc j) h l =
         ⊎-elim
-        (λ (e : i ≡ j). ap-le e)
+        (λ (e : i ≡ j). rw e (next-apart j l))
         (λ (g : i < j). omega (arith, apart i j g (omega arith), range-ordered ws ranges search-within j (omega arith), next-apart j l))
         (eq-or-lt-of-le (le-of-suc-le-suc h))
-      where
-        ap-le : i ≡ j → yAt ranges i ≤ xAt ranges (suc j)
-        ap-le e = rw e (next-apart j l)
 
     single-is : (i : ℕ) → i < rangeCount ranges → estimateReply ws (xAt ranges i) (yAt ranges i) ≡ answered (estimate ws (xAt ranges i) (yAt ranges i))
     single-is i l =
@@ -113,13 +111,10 @@ module _ (ws ranges : List ℕ) where
           most-ranges = most-ranges;
           each-answered = λ i l. ap (λ (r : Reply). r .refusal) (single-is i l);
           sum-of-singles =
-              sym search-answered-here
+              sym (search-answered none)
               ∙ ap (λ (l : List ℕ). answered (sum l)) (tabulate-same (rangeCount ranges) _ _ (λ i l. sym (ap (λ (r : Reply). r .value) (single-is i l))));
           apart = apart;
         }
-      where
-        search-answered-here : answered (searchEstimate ws ranges) ≡ searchReply ws ranges
-        search-answered-here = search-answered none
 
 -- ---- of one range
 

@@ -14,6 +14,7 @@ use lib.Seq.{getD-take, getD-drop}
 use Rattle.laws.specs.Refusal.{refusal}
 use Rattle.laws.specs.Reply.{Reply, answered, refused}
 use Rattle.laws.specs.Sums.{prefixSum}
+use Rattle.laws.proofs.ReplyLaws.{reply-refused, reply-answered}
 use Rattle.laws.proofs.RefusalLaws.{numbered, refusal-append}
 use Rattle.laws.proofs.SearchLaws.{first-is, first-eq, halved-is}
 use Rattle.laws.proofs.SumsLaws.{prefix-suc, prefix-mono, prefix-all}
@@ -176,11 +177,11 @@ module _ (ws : List ℕ) (e : ℕ) where
   -- the reply by the fault, and the fault by the reply, since no bucket begins at 0
   pub place-refused : (n : ℕ) → (findFault ws e ≡ 0 → ⊥) → n ≡ findFault ws e → refused n ≡ findReply ws e
   unfolding findReply
-  place-refused n f p = simp (ne-eqb (findFault ws e) 0 f) (ap refused p)
+  place-refused n f p = reply-refused (findFault ws e) (place (bucketOf ws e) 0) n p (λ z. f (sym p ∙ z))
 
   pub place-found : (at : ℕ) → findFault ws e ≡ 0 → at ≡ place (bucketOf ws e) 0 → answered at ≡ findReply ws e
   unfolding findReply
-  place-found at f p = simp (eq-eqb (findFault ws e) 0 f) (ap answered p)
+  place-found at f p = ap answered p ∙ reply-answered (findFault ws e) (place (bucketOf ws e) 0) f
 
   pub place-fault : (n : ℕ) → refused n ≡ findReply ws e → findFault ws e ≡ 0 → ⊥
   place-fault n r f = let v = ap (λ (x : Reply). x .value) (r ∙ sym (place-found _ f refl)) in omega arith

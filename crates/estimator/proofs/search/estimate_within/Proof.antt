@@ -1,18 +1,14 @@
 -- `estimator::search::estimate_within` meets its contract: 0 for the empty range, and else its estimate.
 -- Assumes nothing.
-use mathlib.Core.Path.{_≡_, sym, ap, _∙_}
-use Prim.Native.Nat.{ℕ}
 use native.Mathlib.Omega.{arith}
-use Rattle.estimate_rules.specs.Asking.{estimate}
-use Rattle.estimate_rules.proofs.Proved.{none}
+use Rattle.estimate_rules.proofs.Proved.{estimate-empty}
 use Rattle.estimator.proofs.search.estimate_within.Statement.{statement}
 use Rattle.estimator.proofs.search.estimate_within.Tie as tie
 
 returns : tie.Need-returns
 returns c =
     let s = c .before .before in
-    let same : s .args .x ≡ s .args .y = omega arith in
-    sym (ap (λ (y : ℕ). estimate (s .args .words .now) (s .args .x) y) (sym same) ∙ none (s .args .words .now) (s .pre .0) (s .args .x))
+    estimate-empty (s .args .words .now) (s .pre .0) (s .args .x) (s .args .y) (omega arith)
 
 estimate-of-requires : tie.Need-estimate-of-requires
 estimate-of-requires c κs = let s = c .before .before in (s .pre .0, omega arith, omega arith)

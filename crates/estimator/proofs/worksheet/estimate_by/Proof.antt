@@ -1,20 +1,16 @@
 -- `estimator::worksheet::estimate_by` meets its contract: 0 for the empty range, and else the sum rounded up once, and at least 1.
 -- Assumes nothing.
-use mathlib.Core.Path.{_≡_, sym, ap, _∙_}
-use Prim.Native.Nat.{ℕ}
 use native.Mathlib.Omega.{arith}
 use borrow.Author.Needs.{needs}
-use Rattle.estimate_rules.specs.Asking.{estimate}
 use Rattle.estimate_rules.proofs.AskingLaws.{estimate-some}
-use Rattle.estimate_rules.proofs.Proved.{none}
+use Rattle.estimate_rules.proofs.Proved.{estimate-empty}
 use Rattle.estimator.proofs.worksheet.estimate_by.Statement.{statement}
 use Rattle.estimator.proofs.worksheet.estimate_by.Tie as tie
 
 returns : tie.Need-returns
 returns c =
     let s = c .before .before .before in
-    let same : s .args .x ≡ s .args .y = omega arith in
-    sym (ap (λ (y : ℕ). estimate (s .args .words .now) (s .args .x) y) (sym same) ∙ none (s .args .words .now) (s .pre .0 .readable) (s .args .x))
+    estimate-empty (s .args .words .now) (s .pre .0 .readable) (s .args .x) (s .args .y) (omega arith)
 
 exact-by-requires : tie.Need-exact-by-requires
 exact-by-requires c κs = let s = c .before .before .before in (s .pre .0, omega arith, omega arith)
