@@ -5,7 +5,7 @@
 use mathlib.Core.Path.{_≡_, ap}
 use mathlib.Core.Logic.{_⊎_, inl, inr, ⊎-elim}
 use Prim.Native.Nat.{ℕ, _+_, _-_, _*_, _≤_}
-use native.Mathlib.Nat.{mul-le-mul-left, mul-le-mul-right, sub-add-cancel}
+use native.Mathlib.Nat.{mul-le-mul-left, mul-le-mul-right, le-of-mul-le-mul-right, sub-add-cancel}
 use native.Mathlib.Omega.{arith}
 
 pub record ButFor (pn pd t m f v : ℕ) : Type 0 where
@@ -58,6 +58,14 @@ module _ {pn pd t m f v : ℕ} (p : ButFor pn pd t m f v) where
   but-for-more n h =
       let more = mul-le-mul-left pd (mul-le-mul-right t h) in
       record { f-over = omega (arith, p .f-over, more); v-over = omega (arith, p .v-over, more) }
+
+  -- and the factor may be larger
+  pub but-for-wider : (qn qd : ℕ) → 1 ≤ pd → pn * qd ≤ qn * pd → ButFor qn qd t m f v
+  but-for-wider qn qd h l =
+      record {
+        f-over = le-of-mul-le-mul-right {k = pd} (omega (arith, mul-le-mul-right qd (p .f-over), mul-le-mul-right v l)) h;
+        v-over = le-of-mul-le-mul-right {k = pd} (omega (arith, mul-le-mul-right qd (p .v-over), mul-le-mul-right f l)) h;
+      }
 
   -- all times a number
   pub but-for-scale : (d : ℕ) → ButFor pn pd (t * d) m (f * d) (v * d)

@@ -9,7 +9,8 @@ use Rattle.estimate_rules.specs.declared.Fraction.{Fraction}
 use Rattle.estimate_rules.specs.Fraction.{nothing, plus, rounded, numerator}
 use Rattle.estimate_rules.proofs.FractionLaws.{rounded-reaches, rounded-tight}
 use Rattle.accuracy.specs.Claims.{Within}
-use Rattle.accuracy.proofs.ButFor.{ButFor, Factor, factor, but-for-more, but-for-scale, but-for-add}
+use Rattle.accuracy.specs.Sharper.{UpTo}
+use Rattle.accuracy.proofs.ButFor.{ButFor, Factor, factor, but-for-more, but-for-wider, but-for-scale, but-for-add}
 use Rattle.accuracy.proofs.Ranges.{Adding}
 
 pub record Close (pn pd theta m f : ℕ) (e : Fraction) : Type 0 where
@@ -37,6 +38,9 @@ module _ (pn pd theta : ℕ) where
 module _ {pn pd theta m f : ℕ} {e : Fraction} (s : Close pn pd theta m f e) where
   pub close-more : (n : ℕ) → m ≤ n → Close pn pd theta n f e
   close-more n h = record { positive = s .positive; but-for = but-for-more (s .but-for) n h }
+
+  pub close-wider : (qn qd : ℕ) → 1 ≤ pd → pn * qd ≤ qn * pd → Close qn qd theta m f e
+  close-wider qn qd h l = record { positive = s .positive; but-for = but-for-wider (s .but-for) qn qd h l }
 
   -- the same count and the same fraction, in other words
   pub close-as : (g : ℕ) (d : Fraction) → g ≡ f → d ≡ e → Close pn pd theta m g d
@@ -93,6 +97,34 @@ close-add {pn} {pd} {theta} {m₁} {m₂} {f₁} {f₂} {e₁} {e₂} s₁ s₂ 
 
 pub close-adds : (pn pd theta : ℕ) → Adding (Close pn pd theta)
 close-adds pn pd theta = record { none = close-nothing pn pd theta; more = λ m n f e h s. close-more s n h; add = λ m n f g d e s t. close-add s t }
+
+-- ---- two factors: m cuts, all excused and the rest within p, or one of them not excused, and within q with the rest
+
+abbrev pub Either : ℕ × ℕ → ℕ × ℕ → ℕ → ℕ → ℕ → Fraction → Type 0
+Either p q theta m f e = Close (p .0) (p .1) theta m f e ⊎ ((1 ≤ m) × Close (q .0) (q .1) theta (m - 1) f e)
+
+module _ (p q : ℕ × ℕ) (theta : ℕ) (up : UpTo q p) where
+  -- what is within p is within q
+  in-q : {m f : ℕ} {e : Fraction} → Close (p .0) (p .1) theta m f e → Close (q .0) (q .1) theta m f e
+  in-q s = close-wider s (q .0) (q .1) (up .positive) (up .most)
+
+  either-more : (m n f : ℕ) (e : Fraction) → m ≤ n → Either p q theta m f e → Either p q theta n f e
+  either-more m n f e h (inl s) = inl (close-more s n h)
+  either-more m n f e h (inr s) = inr (omega (arith, s .0), close-more (s .1) (n - 1) (omega arith))
+
+  -- excused cuts with one that is not
+  one-not : (m n f g : ℕ) (d e : Fraction) → 1 ≤ n → Close (q .0) (q .1) theta m f d → Close (q .0) (q .1) theta (n - 1) g e
+      → Close (q .0) (q .1) theta (m + n - 1) (f + g) (plus d e)
+  one-not m n f g d e h s t = close-more (close-add s t) (m + n - 1) (omega arith)
+
+  either-add : (m n f g : ℕ) (d e : Fraction) → Either p q theta m f d → Either p q theta n g e → Either p q theta (m + n) (f + g) (plus d e)
+  either-add m n f g d e (inl s) (inl t) = inl (close-add s t)
+  either-add m n f g d e (inl s) (inr t) = inr (omega (arith, t .0), one-not m n f g d e (t .0) (in-q s) (t .1))
+  either-add m n f g d e (inr s) (inl t) = inr (omega (arith, s .0), close-more (close-add (s .1) (in-q t)) (m + n - 1) (omega (arith, s .0)))
+  either-add m n f g d e (inr s) (inr t) = inr (omega (arith, s .0), one-not m n f g d e (t .0) (close-more (s .1) m (omega arith)) (t .1))
+
+  pub either-adds : Adding (Either p q theta)
+  either-adds = record { none = inl (close-nothing (p .0) (p .1) theta); more = either-more; add = either-add }
 
 -- ---- a whole number that the fraction does not pass: each of its cuts rounded up by itself
 

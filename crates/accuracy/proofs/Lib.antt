@@ -8,4 +8,6 @@ pub mod Uncut
 pub mod NoneLeft
 pub mod OneBucketlet
 pub mod Several
+pub mod Answers
 pub mod Proved
+pub mod Sharpness

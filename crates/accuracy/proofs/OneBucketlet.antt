@@ -25,7 +25,7 @@ use Rattle.accuracy.proofs.Close.{Close, close-as}
 use Rattle.accuracy.proofs.Ranges.{countIn, count-all}
 use Rattle.accuracy.proofs.Pieces.{bucketlet-above}
 use Rattle.fit.proofs.AcceptedLaws.{Fitting}
-use Rattle.accuracy.proofs.Estimate.{total-close}
+use Rattle.accuracy.proofs.Estimate.{whole-within-q, total-close}
 
 module _ (x y : ℕ) where
   -- the range lies beside the span from a to e
@@ -114,7 +114,7 @@ module _ (fs ws : List ℕ) (ok : Fitting fs ws) (x y : ℕ) (ordered : x ≤ y)
         r = bucketAt ws b
 
         whole : inside x y (start ws b) (end ws b) ≡ true → Close (qn ws) (qd ws) (theta ws) 0 f (exact ws x y)
-        whole t = close-as (total-close fs ws ok x y ordered b h t) f (exact ws x y) (sym bucket-count) (exact-one ∙ bucket-whole ws x y b t)
+        whole t = close-as (total-close fs ws ok x y ordered (qn ws, qd ws) (whole-within-q fs ws ok) b h t) f (exact ws x y) (sym bucket-count) (exact-one ∙ bucket-whole ws x y b t)
 
         part : inside x y (start ws b) (end ws b) ≡ false → Close (qn ws) (qd ws) (theta ws) 0 f (exact ws x y)
         part t =

@@ -1,9 +1,9 @@
 -- The claims of specs/Claims.antt, from the laws beside this file. Assumes nothing.
-use mathlib.Core.Path.{_≡_, ap, subst, sym}
+use mathlib.Core.Path.{_≡_, ap}
 use mathlib.Core.List.{List}
-use mathlib.Core.Logic.{_⊎_, inl, inr, ⊎-elim}
-use Prim.Native.Nat.{ℕ, _+_, _-_, _*_, _≤_, _<_}
-use native.Mathlib.Nat.{mul-le-mul, mul-le-mul-left, mul-le-mul-right, le-of-mul-le-mul-right}
+use mathlib.Core.Logic.{_⊎_, ⊎-elim}
+use Prim.Native.Nat.{ℕ, _+_, _-_, _*_, _≤_}
+use native.Mathlib.Nat.{mul-le-mul-left, le-of-mul-le-mul-right}
 use native.Mathlib.Omega.{arith}
 use lib.ListN.{length}
 use Rattle.laws.specs.Refusal.{refusal}
@@ -16,82 +16,31 @@ use Rattle.list_rules.specs.Quality.{quality, inputSentences}
 use Rattle.list_rules.proofs.SoundLaws.{sound-of}
 use Rattle.build_rules.proofs.ReadBack.{entries-are, theta-is, qn-is, qd-is}
 use Rattle.build_rules.proofs.Proved.{building}
-use Rattle.estimate_rules.specs.Fraction.{rounded, numerator}
+use Rattle.estimate_rules.specs.Fraction.{numerator}
 use Rattle.estimate_rules.specs.Exact.{exact}
-use Rattle.estimate_rules.specs.Asking.{estimate}
 use Rattle.estimate_rules.proofs.FractionLaws.{rounded-reaches, rounded-most}
 use Rattle.estimate_rules.specs.Search.{searchReply}
-use Rattle.estimate_rules.proofs.AskingLaws.{raised-or, reply-is}
+use Rattle.estimate_rules.proofs.AskingLaws.{reply-is}
 use Rattle.estimate_rules.proofs.RangesLaws.{range-ordered, range-within}
 use Rattle.estimate_rules.proofs.SearchLaws.{search-taken, search-within}
 use Rattle.estimate_rules.proofs.Proved.{searches}
-use Rattle.accuracy.specs.Claims.{count, answer, answerOf, InList, Within, SeveralRangesShorter, Accurate, Accuracy}
+use Rattle.accuracy.specs.Claims.{count, answer, answerOf, InList, SeveralRangesShorter, Accurate, Accuracy}
 use Rattle.accuracy.proofs.ButFor.{ButFor}
-use Rattle.accuracy.proofs.Close.{Close, close-within}
 use Rattle.fit.proofs.AcceptedLaws.{Fitting, fitting}
-use Rattle.accuracy.proofs.Estimate.{range-close-two, range-capped}
+use Rattle.accuracy.proofs.Estimate.{whole-within-q, range-close-two, range-capped}
 use Rattle.accuracy.proofs.OneBucketlet.{ends-in-list, one-close}
-use Rattle.accuracy.proofs.Uncut.{uncut-within}
 use Rattle.accuracy.proofs.NoneLeft.{none-left}
 use Rattle.accuracy.proofs.Several.{either, several-shorter, follows}
-
--- an answer n of which the sum rounded up is m: they are the same, or m is 0 and n is 1
-abbrev Answered : ℕ → ℕ → Type 0
-Answered m n = (n ≡ m) ⊎ ((m ≡ 0) × (n ≡ 1))
-
--- above a multiple of theta, which is at least 1, it is the sum that is
-sum-above : (t f m n : ℕ) → 1 ≤ t → Answered m n → (t < f) ⊎ (t < n) → (t < f) ⊎ (t < m)
-sum-above t f m n h a r = ⊎-elim (λ e. either r (λ g. g) (λ g. omega arith)) (λ e. ⊎-elim inl (λ g. absurd (omega (arith, e .1))) r) a
-
--- and what is within a factor for 0 is so for 1
-answer-within : (d e f m n : ℕ) → Answered m n → Within d e 1 f m → Within d e 1 f n
-answer-within d e f m n a w =
-    ⊎-elim
-    (λ (s : n ≡ m). subst (Within d e 1 f) (sym s) w)
-    (λ (s : (m ≡ 0) × (n ≡ 1)). subst (Within d e 1 f) (sym (s .1)) (one (subst (Within d e 1 f) (s .0) w)))
-    a
-  where
-    one : Within d e 1 f 0 → Within d e 1 f 1
-    one w = record { count-within = omega (arith, w .count-within); answer-within = w .answer-within }
-
--- within q, without a rest, but for a count of 0
-whole-within : (d e f m n : ℕ) → 1 ≤ e → Answered m n → (e * f ≤ d * m) × (e * m ≤ d * f)
-    → (e * f ≤ d * n) × ((e * n ≤ d * f) ⊎ ((f ≡ 0) × (n ≡ 1)))
-whole-within d e f m n h a w =
-    ⊎-elim
-    (λ (s : n ≡ m). rw s (w .0, inl (w .1)))
-    (λ (s : (m ≡ 0) × (n ≡ 1)).
-    let low : e * f ≤ d * 0 = subst (λ (m : ℕ). e * f ≤ d * m) (s .0) (w .0) in
-    let none : f ≡ 0 = omega (arith, low, mul-le-mul-right f h) in
-    (omega (arith, low), inr (none, s .1)))
-    a
+use Rattle.accuracy.proofs.Answers.{Answered, sum-above, answer-is, within, whole-ranges}
 
 module _ (fs ws : List ℕ) (ok : Fitting fs ws) where
-  answer-is : (x y : ℕ) → x ≤ y → y ≤ entries ws → Answered (rounded (exact ws x y)) (answer ws x y)
-  unfolding estimate
-  answer-is x y h l =
-      subst (Answered (rounded (exact ws x y))) (sym (ap (λ (r : Reply). r .value) (reply-is ws x y (ok .readable) h l))) (raised-or x y (rounded (exact ws x y)))
-
-  -- a multiple of theta
-  some : (k : ℕ) → 1 ≤ k → 1 ≤ k * theta ws
-  some k h = omega (arith, mul-le-mul h (histogram .limits ws (ok .readable) .least-theta))
-
-  -- the lemma, for the histogram's own theta and q
-  within : (m x y k : ℕ) → x ≤ y → y ≤ entries ws → Close (qn ws) (qd ws) (theta ws) m (count fs x y) (exact ws x y) → m < k
-      → (k * theta ws < count fs x y) ⊎ (k * theta ws < answer ws x y) → Within (qn ws * k) (qd ws * (k - m)) 1 (count fs x y) (answer ws x y)
-  within m x y k h l s g r =
-      let limits = histogram .limits ws (ok .readable) in
-      let a = answer-is x y h l in
-      answer-within _ _ _ _ _ a
-      (close-within s k (limits .least-qd) (omega (arith, limits .least-q)) g (sum-above (k * theta ws) _ _ _ (some k (omega arith)) a r))
-
   -- a range's count and answer are within q but for 2 theta
   two-theta : (x y : ℕ) → x ≤ y → y ≤ entries ws → ButFor (qn ws) (qd ws) (theta ws) 2 (count fs x y) (answer ws x y)
   two-theta x y h l =
       let e = exact ws x y in
       let s = range-close-two fs ws ok x y h l in
       let c = range-capped fs ws ok x y h l in
-      let a = answer-is x y h l in
+      let a = answer-is fs ws ok x y h l in
       record {
         f-over =
             le-of-mul-le-mul-right {k = e .bottom}
@@ -140,12 +89,11 @@ module _ (fs ws : List ℕ) (ok : Fitting fs ws) where
         searched-shorter = λ ranges k e. rw (searched-value ranges e) (shorter ranges k (searched-within ranges e));
         one-bucketlet = λ b j x y h l from g to r.
             let inside = ends-in-list fs ws ok x y g b j h l from to in
-            let theta-some = histogram .limits ws (ok .readable) .least-theta in
-            let s = one-close fs ws ok x y g b j h l from to (sum-above (theta ws) _ _ _ theta-some (answer-is x y g inside) r) in
-            let w = within 0 x y 1 g inside s (omega arith) (either r (λ f. omega arith) (λ f. omega arith)) in
+            let limits = histogram .limits ws (ok .readable) in
+            let s = one-close fs ws ok x y g b j h l from to (sum-above (theta ws) _ _ _ (limits .least-theta) (answer-is fs ws ok x y g inside) r) in
+            let w = within fs ws ok (qn ws) (qd ws) 0 x y 1 (limits .least-qd) (omega (arith, limits .least-q)) g inside s (omega arith) (either r (λ f. omega arith) (λ f. omega arith)) in
             record { count-within = omega (arith, w .count-within); answer-within = omega (arith, w .answer-within) };
-        whole = λ x y h l from to.
-            whole-within (qn ws) (qd ws) _ _ _ (histogram .limits ws (ok .readable) .least-qd) (answer-is x y h l) (uncut-within fs ws ok x y h from to l);
+        whole = whole-ranges fs ws ok (qn ws, qd ws) (histogram .limits ws (ok .readable) .least-qd) (whole-within-q fs ws ok);
       }
 
 pub accuracy : Accuracy

@@ -98,6 +98,13 @@ module _ (fs ws : List ℕ) (d theta qn qd : ℕ) where
 abbrev pub CutsNone : List ℕ → ℕ → Type 0
 CutsNone ws x = (b j : ℕ) → b < buckets ws → j < 8 → bucketletStart (bucketAt ws b) j < x → bucketletEnd (bucketAt ws b) j ≤ x
 
+-- where neither end of a range cuts a bucketlet, each is at most n/d times the other, whatever theta is, and nothing is rounded; but a count of 0 may
+-- be answered with 1
+abbrev pub WholeRanges : List ℕ → List ℕ → ℕ → ℕ → ℕ → Type 0
+WholeRanges fs ws entries n d =
+    (x y : ℕ) → x ≤ y → y ≤ entries → CutsNone ws x → CutsNone ws y
+    → (d * count fs x y ≤ n * answer ws x y) × ((d * answer ws x y ≤ n * count fs x y) ⊎ ((count fs x y ≡ 0) × (answer ws x y ≡ 1)))
+
 -- of a list of d frequencies and a histogram with this theta and q
 pub record Accurate (fs ws : List ℕ) (d theta qn qd : ℕ) : Type 0 where
   -- a range within the list is answered
@@ -119,9 +126,8 @@ pub record Accurate (fs ws : List ℕ) (d theta qn qd : ℕ) : Type 0 where
   pub one-bucketlet : (b j x y : ℕ) → b < buckets ws → j < 8 → bucketletStart (bucketAt ws b) j ≤ x → x ≤ y → y ≤ bucketletEnd (bucketAt ws b) j
       → (theta < count fs x y) ⊎ (theta < answer ws x y)
       → Within qn qd 1 (count fs x y) (answer ws x y)
-  -- where neither end cuts a bucketlet it is q, whatever theta is, and nothing is rounded; but a count of 0 may be answered with 1
-  pub whole : (x y : ℕ) → x ≤ y → y ≤ d → CutsNone ws x → CutsNone ws y
-      → (qd * count fs x y ≤ qn * answer ws x y) × ((qd * answer ws x y ≤ qn * count fs x y) ⊎ ((count fs x y ≡ 0) × (answer ws x y ≡ 1)))
+  -- and so it is where neither end cuts a bucketlet
+  pub whole : WholeRanges fs ws d qn qd
 
 -- what follows from what: request ii's form from the shorter one, and the rules of one range as the case of r = 1
 pub record Follows (fs ws : List ℕ) (d theta qn qd : ℕ) : Type 0 where

@@ -1,16 +1,21 @@
 -- Accepted histograms that show what the factor needs, with q 5/4: a smaller factor, or a smaller multiple of theta, would not hold. And
--- words that no longer occur.
+-- words that no longer occur. Histograms of the builder that show the same of the sharper factor, and an accepted one that does not keep to it.
 -- Assumes nothing.
 use mathlib.Core.Path.{_≡_}
 use mathlib.Core.Bool.{true, false}
 use mathlib.Core.List.{List, [], _∷_, _++_}
 use Prim.Native.Nat.{ℕ, _+_, _-_, _*_}
 use lib.Dec.{leb, ltb}
+use lib.ListN.{replicate}
+use Rattle.counts_rules.specs.Class.{classValue}
 use Rattle.words_rules.specs.Worked.{zeros}
+use Rattle.list_rules.specs.Quality.{quality}
 use Rattle.fit.specs.Accepted.{accepted}
+use Rattle.build_rules.specs.Words.{words}
 use Rattle.laws.specs.Reply.{answered}
 use Rattle.estimate_rules.specs.Search.{searchReply}
 use Rattle.accuracy.specs.Claims.{count, answer, countOf, answerOf, Distance, Rule, ShorterRule}
+use Rattle.accuracy.specs.Sharper.{sharpFactor, numbersFactor, AtMost, SharperRule, Sharp}
 
 -- a number between two spikes, each in a bucketlet of 9 entries that stands for 93; theta is 98, which excuses a spike
 abbrev pub spikes : ℕ → List ℕ
@@ -52,6 +57,39 @@ bareTwice = 38 ∷ 98 ∷ 0x1404 ∷ 1 ∷ 0x40000209 ∷ 0x8E04E381 ∷ 0x8E000
 abbrev pub aloneTwice : List ℕ
 aloneTwice = 2 ∷ 1 ∷ 0x1404 ∷ 1 ∷ 0x40000201 ∷ 0x8E380000 ∷ 0x80000E81 ∷ 0xC0040000 ∷ 0xC0000000 ∷ []
 
+-- ---- what the builder makes (request vi)
+
+-- 8 and 2 with theta 1 and q 2: one bucketlet that stands for 8, of which each is 4
+abbrev pub halved : List ℕ
+halved = 2 ∷ 1 ∷ 0x801 ∷ 1 ∷ 0x40000202 ∷ 0x87000000 ∷ 0x80000140 ∷ 0xC0000000 ∷ 0xC0000000 ∷ []
+
+-- spikes 116 with theta 98 and q 5/4: 116 stands as 131
+abbrev pub spiked : List ℕ
+spiked = 19 ∷ 98 ∷ 0x1404 ∷ 1 ∷ 0x40000209 ∷ 0x8E3CE000 ∷ 0x800009C2 ∷ 0xC0041200 ∷ 0xC0000000 ∷ []
+
+-- 2, 0, 4, 12 with theta 1 and q 17/8: two bucketlets that stand for 2 and 17
+abbrev pub rounding : List ℕ
+rounding = 4 ∷ 1 ∷ 0x4408 ∷ 1 ∷ 0x40000202 ∷ 0x83240000 ∷ 0x80000240 ∷ 0xC0080000 ∷ 0xC0000000 ∷ []
+
+-- seven 10s between two 9s, among words that no longer occur
+abbrev pub tens : List ℕ
+tens =
+    replicate 19 0 ++ (9 ∷ 10 ∷ 0 ∷ 10 ∷ 0 ∷ 10 ∷ 0 ∷ 10 ∷ 0 ∷ 10 ∷ 0 ∷ 10 ∷ 0 ∷ 10 ∷ 0 ∷ 9 ∷ []) ++ replicate 25 0
+
+-- with theta 9, which excuses a 9, and q 5/4: each 10 in a bucketlet of its own, as 8, and each 9 in a wide one
+abbrev pub eights : List ℕ
+eights =
+    60 ∷ 9 ∷ 0x1404 ∷ 2
+    ∷ 0x40000214 ∷ 0x871C01C0 ∷ 0x87007620 ∷ 0xC0040201 ∷ 0xC0040201
+    ∷ 0x40006E01 ∷ 0x801C01C0 ∷ 0x871C04E0 ∷ 0xC0040201 ∷ 0xC004021B ∷ []
+
+-- 10 between two 9s, with theta 9 and q 2, not as the builder makes it: each 9 in a bucketlet of 12 entries and the 10 alone, all three as 6
+abbrev pub ten : List ℕ
+ten = replicate 11 0 ++ (9 ∷ 10 ∷ 9 ∷ []) ++ replicate 11 0
+
+abbrev pub sixes : List ℕ
+sixes = 25 ∷ 9 ∷ 0x801 ∷ 1 ∷ 0x4000020C ∷ 0x86186000 ∷ 0x80000380 ∷ 0xC0041800 ∷ 0xC0000000 ∷ []
+
 pub record Worked : Type 0 where
   pub all-accepted : accepted (spikes 116) large ∷ accepted (spikes 17) small ∷ accepted (116 ∷ 1 ∷ []) alone ∷ [] ≡ true ∷ true ∷ true ∷ []
   pub counts : count (spikes 116) 8 11 ∷ count (spikes 17) 8 11 ∷ count (116 ∷ 1 ∷ []) 0 1 ∷ [] ≡ 296 ∷ 197 ∷ 116 ∷ []
@@ -87,3 +125,33 @@ pub record WorkedTwo : Type 0 where
   -- so both rules are as they should be: with a smaller factor, without q or from a smaller multiple of theta on they would fail here
   pub rules : Rule 98 5 4 2 6 592 228 × Rule 98 5 4 2 5 394 44 × Rule 1 5 4 2 231 232 186
   pub shorter-rules : ShorterRule 98 5 4 2 6 592 228 × ShorterRule 98 5 4 2 5 394 44 × ShorterRule 1 5 4 2 231 232 186
+
+pub record WorkedSharper : Type 0 where
+  -- for q 2 and k 3, 12 and 100 the factor is 15/4, 24/11 and 200/99
+  pub factors : sharpFactor numbersFactor (2, 1) 3 ∷ sharpFactor numbersFactor (2, 1) 12 ∷ sharpFactor numbersFactor (2, 1) 100 ∷ [] ≡ (15, 4) ∷ (24, 11) ∷ (200, 99) ∷ []
+  pub all-built :
+      words (quality 1 2 1) (8 ∷ 2 ∷ []) ∷ words (quality 98 5 4) (spikes 116) ∷ words (quality 1 17 8) (2 ∷ 0 ∷ 4 ∷ 12 ∷ []) ∷ words (quality 9 5 4) tens ∷ []
+      ≡ halved ∷ spiked ∷ rounding ∷ eights ∷ []
+  pub counts : count (8 ∷ 2 ∷ []) 0 1 ∷ count (spikes 116) 8 11 ∷ count (2 ∷ 0 ∷ 4 ∷ 12 ∷ []) 1 3 ∷ count tens 19 35 ∷ [] ≡ 8 ∷ 296 ∷ 4 ∷ 88 ∷ []
+  pub answers : answer halved 0 1 ∷ answer spiked 8 11 ∷ answer rounding 1 3 ∷ answer eights 19 35 ∷ [] ≡ 4 ∷ 152 ∷ 10 ∷ 57 ∷ []
+  -- k 6: 8 is above 6 theta; it is within q times k/(k - 1) of 4, and not within 5/4 times k/(k - 2)
+  pub one-cut : ltb (6 * 1) 8 ∷ leb (1 * (6 - 1) * 8) (2 * 6 * 4) ∷ leb (4 * (6 - 2) * 8) (5 * 6 * 4) ∷ [] ≡ true ∷ true ∷ false ∷ []
+  -- k 3: 296 is above 3 theta; it is within 5/4 times k/(k - 2) of 152, and not within q times k/(k - 1)
+  pub two-cuts : ltb (3 * 98) 296 ∷ leb (4 * (3 - 2) * 296) (5 * 3 * 152) ∷ leb (4 * (3 - 1) * 296) (5 * 3 * 152) ∷ [] ≡ true ∷ true ∷ false ∷ []
+  -- k 9: 10 is above 9 theta; it is not within q times k/(k - 1) of 4, and 10 less one is
+  pub one-off : ltb (9 * 1) 10 ∷ ltb (8 * (9 - 1) * 10) (17 * 9 * 4) ∷ ltb (8 * (9 - 1) * (10 - 1)) (17 * 9 * 4) ∷ [] ≡ true ∷ false ∷ true ∷ []
+  -- k 9: 88 is above 9 theta; it is within 5/4 times k/(k - 2) of 57, and neither within 6/5 times k/(k - 2) nor within q times k/(k - 1)
+  pub needs-5/4 :
+      ltb (9 * 9) 88 ∷ leb (4 * (9 - 2) * 88) (5 * 9 * 57) ∷ leb (5 * (9 - 2) * 88) (6 * 9 * 57) ∷ leb (4 * (9 - 1) * 88) (5 * 9 * 57) ∷ []
+      ≡ true ∷ true ∷ false ∷ false ∷ []
+  -- a whole bucketlet that counts 5 stands for 4
+  pub whole-5 : AtMost numbersFactor 5 (classValue 5)
+  -- so the rule is as it should be: with either half alone, with nothing taken off, with 6/5 for 5/4 or from a smaller multiple of theta on (`small`)
+  -- it would fail here
+  pub rules :
+      SharperRule numbersFactor 1 (2, 1) 6 8 4 × SharperRule numbersFactor 98 (5, 4) 3 296 152 × SharperRule numbersFactor 1 (17, 8) 9 4 10
+      × SharperRule numbersFactor 9 (5, 4) 9 88 57 × SharperRule numbersFactor 98 (5, 4) 3 197 38
+  -- a histogram that is accepted and not the builder's: it counts 28 and answers 7, so that it does not keep to the rule
+  pub other-accepted : accepted ten sixes ≡ true
+  pub other-answered : count ten 11 14 ∷ answer sixes 11 14 ∷ [] ≡ 28 ∷ 7 ∷ []
+  pub other-beyond : Sharp numbersFactor ten sixes 25 9 (2, 1) → ⊥
