@@ -57,7 +57,7 @@ module _ (fs ws : List ℕ) (ok : Fitting fs ws) where
   answer-is x y h l =
       subst (Answered (rounded (exact ws x y))) (sym (ap (λ (r : Reply). r .value) (reply-is ws x y (ok .readable) h l))) (raised-or x y (rounded (exact ws x y)))
 
-  -- a multiple of theta
+  -- a multiple of theta is at least 1
   some : (k : ℕ) → 1 ≤ k → 1 ≤ k * theta ws
   some k h = omega (arith, mul-le-mul h (histogram .limits ws (ok .readable) .least-theta))
 

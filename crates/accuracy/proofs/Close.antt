@@ -98,33 +98,33 @@ close-add {pn} {pd} {theta} {m₁} {m₂} {f₁} {f₂} {e₁} {e₂} s₁ s₂ 
 pub close-adds : (pn pd theta : ℕ) → Adding (Close pn pd theta)
 close-adds pn pd theta = record { none = close-nothing pn pd theta; more = λ m n f e h s. close-more s n h; add = λ m n f g d e s t. close-add s t }
 
--- ---- two factors: m cuts, all excused and the rest within p, or one of them not excused, and within q with the rest
+-- ---- two factors: m cuts, all excused and the rest within p, or fewer than m excused and the rest within q
 
-abbrev pub Either : ℕ × ℕ → ℕ × ℕ → ℕ → ℕ → ℕ → Fraction → Type 0
-Either p q theta m f e = Close (p .0) (p .1) theta m f e ⊎ ((1 ≤ m) × Close (q .0) (q .1) theta (m - 1) f e)
+pub record Fewer (q : ℕ × ℕ) (theta m f : ℕ) (e : Fraction) : Type 0 where
+  pub excused : ℕ
+  pub fewer : excused < m
+  pub close : Close (q .0) (q .1) theta excused f e
+
+abbrev pub TwoWays : ℕ × ℕ → ℕ × ℕ → ℕ → ℕ → ℕ → Fraction → Type 0
+TwoWays p q theta m f e = Close (p .0) (p .1) theta m f e ⊎ Fewer q theta m f e
 
 module _ (p q : ℕ × ℕ) (theta : ℕ) (up : UpTo q p) where
   -- what is within p is within q
   in-q : {m f : ℕ} {e : Fraction} → Close (p .0) (p .1) theta m f e → Close (q .0) (q .1) theta m f e
   in-q s = close-wider s (q .0) (q .1) (up .positive) (up .most)
 
-  either-more : (m n f : ℕ) (e : Fraction) → m ≤ n → Either p q theta m f e → Either p q theta n f e
-  either-more m n f e h (inl s) = inl (close-more s n h)
-  either-more m n f e h (inr s) = inr (omega (arith, s .0), close-more (s .1) (n - 1) (omega arith))
+  ways-more : (m n f : ℕ) (e : Fraction) → m ≤ n → TwoWays p q theta m f e → TwoWays p q theta n f e
+  ways-more m n f e h (inl s) = inl (close-more s n h)
+  ways-more m n f e h (inr s) = inr (record { excused = s .excused; fewer = omega (arith, s .fewer); close = s .close })
 
-  -- excused cuts with one that is not
-  one-not : (m n f g : ℕ) (d e : Fraction) → 1 ≤ n → Close (q .0) (q .1) theta m f d → Close (q .0) (q .1) theta (n - 1) g e
-      → Close (q .0) (q .1) theta (m + n - 1) (f + g) (plus d e)
-  one-not m n f g d e h s t = close-more (close-add s t) (m + n - 1) (omega arith)
+  ways-add : (m n f g : ℕ) (d e : Fraction) → TwoWays p q theta m f d → TwoWays p q theta n g e → TwoWays p q theta (m + n) (f + g) (plus d e)
+  ways-add m n f g d e (inl s) (inl t) = inl (close-add s t)
+  ways-add m n f g d e (inl s) (inr t) = inr (record { excused = m + t .excused; fewer = omega (arith, t .fewer); close = close-add (in-q s) (t .close) })
+  ways-add m n f g d e (inr s) (inl t) = inr (record { excused = s .excused + n; fewer = omega (arith, s .fewer); close = close-add (s .close) (in-q t) })
+  ways-add m n f g d e (inr s) (inr t) = inr (record { excused = s .excused + t .excused; fewer = omega (arith, s .fewer, t .fewer); close = close-add (s .close) (t .close) })
 
-  either-add : (m n f g : ℕ) (d e : Fraction) → Either p q theta m f d → Either p q theta n g e → Either p q theta (m + n) (f + g) (plus d e)
-  either-add m n f g d e (inl s) (inl t) = inl (close-add s t)
-  either-add m n f g d e (inl s) (inr t) = inr (omega (arith, t .0), one-not m n f g d e (t .0) (in-q s) (t .1))
-  either-add m n f g d e (inr s) (inl t) = inr (omega (arith, s .0), close-more (close-add (s .1) (in-q t)) (m + n - 1) (omega (arith, s .0)))
-  either-add m n f g d e (inr s) (inr t) = inr (omega (arith, s .0), one-not m n f g d e (t .0) (close-more (s .1) m (omega arith)) (t .1))
-
-  pub either-adds : Adding (Either p q theta)
-  either-adds = record { none = inl (close-nothing (p .0) (p .1) theta); more = either-more; add = either-add }
+  pub ways-adds : Adding (TwoWays p q theta)
+  ways-adds = record { none = inl (close-nothing (p .0) (p .1) theta); more = ways-more; add = ways-add }
 
 -- ---- a whole number that the fraction does not pass: each of its cuts rounded up by itself
 

@@ -75,7 +75,7 @@ worked-sharper =
       two-cuts = refl;
       one-off = refl;
       needs-5/4 = refl;
-      whole-5 = record { count-at-most = omega arith; number-at-most = omega arith };
+      below-theta = refl;
       rules = (
         λ l r. record { count-within = omega arith; answer-within = omega arith },
         λ l r. record { count-within = omega arith; answer-within = omega arith },
@@ -85,5 +85,5 @@ worked-sharper =
       );
       other-accepted = refl;
       other-answered = refl;
-      other-beyond = λ s. let far : 4 * 28 ≤ 15 * 7 = s .sharper 11 14 3 (omega arith) (omega arith) (omega arith) (inl (omega arith)) .count-within in omega arith;
+      other-beyond = λ s. let far : 4 * 16 ≤ 15 * 4 = s .sharper 5 8 3 (omega arith) (omega arith) (omega arith) (inl (omega arith)) .count-within in omega arith;
     }

@@ -22,8 +22,8 @@ use Rattle.estimate_rules.proofs.CutLaws.{cuts-most}
 use Rattle.estimate_rules.proofs.SpanLaws.{exact-holds}
 use Rattle.accuracy.specs.Sharper.{WholeWithin, UpTo}
 use Rattle.accuracy.proofs.Ranges.{countIn, count-some, count-all, Adding, Spanned, spanned-joined}
-use Rattle.accuracy.proofs.Close.{Close, close-more, close-as, close-adds, Either, either-adds, Capped, capped-whole, capped-adds}
-use Rattle.accuracy.proofs.Pieces.{whole-near, number-close, bucketlet-either, bucketlet-capped}
+use Rattle.accuracy.proofs.Close.{Close, close-more, close-as, close-adds, TwoWays, ways-adds, Capped, capped-whole, capped-adds}
+use Rattle.accuracy.proofs.Pieces.{whole-keeps, number-close, bucketlet-ways, bucketlet-capped}
 use Rattle.fit.proofs.AcceptedLaws.{Fitting}
 
 module _ (fs ws : List ℕ) (ok : Fitting fs ws) where
@@ -35,7 +35,7 @@ module _ (fs ws : List ℕ) (ok : Fitting fs ws) where
   pub whole-within-q : WholeWithin (qn ws, qd ws) fs ws
   whole-within-q =
       record {
-        bucketlets = λ b j h l some. whole-near (qualityOf ws) fs _ _ _ some (ok .bucketlets b j h l some);
+        bucketlets = λ b j h l some. whole-keeps (qualityOf ws) fs _ _ _ some (ok .bucketlets b j h l some);
         totals = λ b h. let near = ok .totals b h in record { count-at-most = omega (arith, near .count); number-at-most = omega (arith, near .estimate) };
       }
 
@@ -84,19 +84,19 @@ module _ (fs ws : List ℕ) (ok : Fitting fs ws) (x y : ℕ) (ordered : x ≤ y)
       let r = bucketAt ws b in
       subst (λ (e : ℕ). Spanned P u v fs x y (bucketletStart r j) e (bucketletPiece x y r j)) (sym (bucketlet-end r j)) s
 
-  -- with one excused at either end, or one less and q
+  -- both cuts excused and the rest within p, or at most one and the rest within q
 
-  pub range-either : (p : ℕ × ℕ) → UpTo (qn ws, qd ws) p → WholeWithin p fs ws → y ≤ entries ws
-      → Either p (qn ws, qd ws) (theta ws) 2 (partSum x (y - x) fs) (exact ws x y)
-  range-either p up keeps =
-      range-holds (Either p (qn ws, qd ws) (theta ws)) (either-adds p (qn ws, qd ws) (theta ws) up) 1 1
+  pub range-ways : (p : ℕ × ℕ) → UpTo (qn ws, qd ws) p → WholeWithin p fs ws → y ≤ entries ws
+      → TwoWays p (qn ws, qd ws) (theta ws) 2 (partSum x (y - x) fs) (exact ws x y)
+  range-ways p up keeps =
+      range-holds (TwoWays p (qn ws, qd ws) (theta ws)) (ways-adds p (qn ws, qd ws) (theta ws) up) 1 1
       (λ b j h l.
-      by-width (Either p (qn ws, qd ws) (theta ws)) 1 1 b j
-      (bucketlet-either (qualityOf ws) fs x y _ _ _ ordered (ok .bucketlets b j h l) p (keeps .bucketlets b j h l)))
+      by-width (TwoWays p (qn ws, qd ws) (theta ws)) 1 1 b j
+      (bucketlet-ways (qualityOf ws) fs x y _ _ _ ordered (ok .bucketlets b j h l) p (keeps .bucketlets b j h l)))
       (λ b h t. inl (total-close p keeps b h t))
 
   pub range-close-two : y ≤ entries ws → Close (qn ws) (qd ws) (theta ws) 2 (partSum x (y - x) fs) (exact ws x y)
-  range-close-two l = ⊎-elim (λ s. s) (λ s. close-more (s .1) 2 (omega arith)) (range-either (qn ws, qd ws) (q-up-to fs ws ok) (whole-within-q fs ws ok) l)
+  range-close-two l = ⊎-elim (λ s. s) (λ s. close-more (s .close) 2 (omega (arith, s .fewer))) (range-ways (qn ws, qd ws) (q-up-to fs ws ok) (whole-within-q fs ws ok) l)
 
   pub range-capped : y ≤ entries ws → Capped (qn ws) (qd ws) (theta ws) 2 (partSum x (y - x) fs) (exact ws x y)
   range-capped =

@@ -21,8 +21,8 @@ use Rattle.estimate_rules.specs.Exact.{inside, overlap, piece}
 use Rattle.estimate_rules.proofs.FractionLaws.{rounded-most}
 use Rattle.estimate_rules.proofs.ExactLaws.{inside-says, piece-none, piece-whole, piece-cut}
 use Rattle.estimate_rules.proofs.CutLaws.{cuts, cut-some}
-use Rattle.accuracy.specs.Sharper.{AtMost}
-use Rattle.accuracy.proofs.Close.{Close, close-near, close-small, close-nothing, close-more, close-as, Either, Capped, capped-whole, capped-near, capped-small, capped-adds}
+use Rattle.accuracy.specs.Sharper.{WithinFactor}
+use Rattle.accuracy.proofs.Close.{Close, close-near, close-small, close-nothing, close-more, close-as, TwoWays, Capped, capped-whole, capped-near, capped-small, capped-adds}
 use Rattle.accuracy.proofs.Ranges.{countIn, count-none, count-some, Spanned}
 
 -- what fitting says of a range inside a bucketlet
@@ -34,9 +34,9 @@ range-fits q fs a w s i n t h =
     n (omega arith)
 
 -- and of the whole bucketlet: its number keeps to q
-pub whole-near : (q : Quality) (fs : List ℕ) (a w s : ℕ) → 0 < w → bucketletFits q fs a w s ≡ true → AtMost (q .qn, q .qd) (partSum a w fs) s
+pub whole-keeps : (q : Quality) (fs : List ℕ) (a w s : ℕ) → 0 < w → bucketletFits q fs a w s ≡ true → WithinFactor (q .qn, q .qd) (partSum a w fs) s
 unfolding bucketletFits
-whole-near q fs a w s some t =
+whole-keeps q fs a w s some t =
     let n = near-says q (partSum a w fs) (w * s) w (both-left (near q (partSum a w fs) (w * s) w) _ t) in
     record {
       count-at-most = le-of-mul-le-mul-right {k = w} (omega (arith, n .count)) some;
@@ -44,7 +44,7 @@ whole-near q fs a w s some t =
     }
 
 -- a count and the number of what it is the count of
-pub number-close : (p : ℕ × ℕ) (theta f s : ℕ) → AtMost p f s → Close (p .0) (p .1) theta 0 f (number s)
+pub number-close : (p : ℕ × ℕ) (theta f s : ℕ) → WithinFactor p f s → Close (p .0) (p .1) theta 0 f (number s)
 number-close p theta f s h =
     close-near (p .0) (p .1) theta f (number s) (omega arith) (omega (arith, h .count-at-most)) (omega (arith, h .number-at-most))
 
@@ -61,7 +61,7 @@ abbrev Cut : ℕ → ℕ → ℕ → ℕ → Type 0
 Cut x y a w = (0 < met x y a w) × (inside x y a (a + w) ≡ false)
 
 -- of a bucketlet whose number is within p of its count
-module _ (p : ℕ × ℕ) (theta : ℕ) (fs : List ℕ) (x y a w s : ℕ) (ordered : x ≤ y) (keeps : 0 < w → AtMost p (partSum a w fs) s) where
+module _ (p : ℕ × ℕ) (theta : ℕ) (fs : List ℕ) (x y a w s : ℕ) (ordered : x ≤ y) (keeps : 0 < w → WithinFactor p (partSum a w fs) s) where
   none-close : met x y a w ≡ 0 → Close (p .0) (p .1) theta 0 (countIn fs x y a (a + w)) (piece x y a w s)
   none-close z = close-as (close-nothing (p .0) (p .1) theta) _ (piece x y a w s) (count-none fs x y a (a + w) ordered z) (piece-none x y a w s z)
 
@@ -107,7 +107,7 @@ module _ (q : Quality) (fs : List ℕ) (x y a w s : ℕ) (ordered : x ≤ y) (go
   cut-near some h = close-near (q .qn) (q .qd) (q .theta) here cut (omega arith) (omega (arith, h .count)) (omega (arith, h .estimate))
 
   -- what is shown of it, if it is where the bucketlet is not cut, where a cut is excused, and where it is within q
-  by-cases : (p : ℕ × ℕ) → (0 < w → AtMost p (partSum a w fs) s) → (P : Fraction → Type 0)
+  by-cases : (p : ℕ × ℕ) → (0 < w → WithinFactor p (partSum a w fs) s) → (P : Fraction → Type 0)
       → (Uncut p (q .theta) fs x y a w s → P (piece x y a w s))
       → (Cut x y a w → Small q here (met x y a w * s) w → P cut)
       → (Cut x y a w → Near q here (met x y a w * s) w → P cut)
@@ -120,19 +120,19 @@ module _ (q : Quality) (fs : List ℕ) (x y a w s : ℕ) (ordered : x ≤ y) (go
       (uncut-or-cut p (q .theta) fs x y a w s ordered keeps)
 
   -- it is within p or, cut, excused; or, cut, within q
-  pub bucketlet-either : (p : ℕ × ℕ) → (0 < w → AtMost p (partSum a w fs) s)
-      → Spanned (Either p (q .qn, q .qd) (q .theta)) 1 1 fs x y a (a + w) (piece x y a w s)
-  bucketlet-either p keeps =
-      by-cases p keeps (Spanned (Either p (q .qn, q .qd) (q .theta)) 1 1 fs x y a (a + w))
+  pub bucketlet-ways : (p : ℕ × ℕ) → (0 < w → WithinFactor p (partSum a w fs) s)
+      → Spanned (TwoWays p (q .qn, q .qd) (q .theta)) 1 1 fs x y a (a + w) (piece x y a w s)
+  bucketlet-ways p keeps =
+      by-cases p keeps (Spanned (TwoWays p (q .qn, q .qd) (q .theta)) 1 1 fs x y a (a + w))
       (λ u. inl (close-more (u .0) _ (omega arith)))
       (λ c h. let some = c .0 in
       inl (close-more (close-small (p .0) (p .1) (q .theta) here cut (omega arith) (h .count) (omega (arith, h .estimate))) _ (omega (arith, cut-some x y a (a + w) (c .0) (c .1)))))
-      (λ c h. inr (omega (arith, cut-some x y a (a + w) (c .0) (c .1)), close-more (cut-near (c .0) h) _ (omega arith)))
+      (λ c h. inr (record { excused = 0; fewer = omega (arith, cut-some x y a (a + w) (c .0) (c .1)); close = cut-near (c .0) h }))
 
   -- and rounds up, with a theta if it is cut
   pub bucketlet-capped : 1 ≤ q .theta → Spanned (Capped (q .qn) (q .qd) (q .theta)) 1 1 fs x y a (a + w) (piece x y a w s)
   bucketlet-capped least =
-      by-cases (q .qn, q .qd) (λ some. whole-near q fs a w s some (good some)) (Spanned (Capped (q .qn) (q .qd) (q .theta)) 1 1 fs x y a (a + w))
+      by-cases (q .qn, q .qd) (λ some. whole-keeps q fs a w s some (good some)) (Spanned (Capped (q .qn) (q .qd) (q .theta)) 1 1 fs x y a (a + w))
       (λ u. capped-adds (q .qn) (q .qd) (q .theta) .more 0 _ here (piece x y a w s) (omega arith) (capped-whole (q .qn) (q .qd) (q .theta) here (piece x y a w s) (u .1) (u .0)))
       (λ c h. with-theta c (capped-small (q .qn) (q .qd) (q .theta) here cut (omega (arith, h .estimate))))
       (λ c h. with-theta c (capped-near (q .qn) (q .qd) (q .theta) here cut least (cut-near (c .0) h)))
@@ -143,7 +143,7 @@ module _ (q : Quality) (fs : List ℕ) (x y a w s : ℕ) (ordered : x ≤ y) (go
   -- above theta it is within q
   pub bucketlet-above : (q .theta < here) ⊎ (q .theta < rounded (piece x y a w s)) → Close (q .qn) (q .qd) (q .theta) 0 here (piece x y a w s)
   bucketlet-above =
-      by-cases (q .qn, q .qd) (λ some. whole-near q fs a w s some (good some))
+      by-cases (q .qn, q .qd) (λ some. whole-keeps q fs a w s some (good some))
       (λ (e : Fraction). (q .theta < here) ⊎ (q .theta < rounded e) → Close (q .qn) (q .qd) (q .theta) 0 here e)
       (λ u r. u .0)
       (λ c h r.

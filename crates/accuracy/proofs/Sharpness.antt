@@ -28,7 +28,8 @@ use Rattle.build_rules.proofs.ReadBack.{entries-are, theta-is, qn-is, qd-is}
 use Rattle.build_rules.proofs.Proved.{building}
 use Rattle.accuracy.specs.Claims.{count, answer, Within}
 use Rattle.accuracy.specs.Sharper.{NoLarger, Smaller, larger, generalFactor, sharpFactor, numbersFactor, Keep, WholeWithin, UpTo, SharperRule, Sharp, Sharpness}
-use Rattle.accuracy.proofs.Estimate.{range-either}
+use Rattle.accuracy.proofs.Close.{close-more}
+use Rattle.accuracy.proofs.Estimate.{range-ways}
 use Rattle.accuracy.proofs.Answers.{within, whole-ranges}
 
 -- ---- the larger of two fractions
@@ -98,8 +99,8 @@ module _ (p : ℕ × ℕ) (fs ws : List ℕ) (ok : Fitting fs ws) (up : UpTo (qn
       let b : ℕ × ℕ = (qn ws * k, qd ws * (k - 1)) in
       ⊎-elim
       (λ s. of-first a b 1 _ _ two one (within fs ws ok (p .0) (p .1) 2 x y k (up .positive) (up .least) h l s (omega arith) r))
-      (λ s. of-second a b 1 _ _ two one (within fs ws ok (qn ws) (qd ws) 1 x y k (limits .least-qd) (omega (arith, limits .least-q)) h l (s .1) (omega arith) r))
-      (range-either fs ws ok x y h p up keeps l)
+      (λ s. of-second a b 1 _ _ two one (within fs ws ok (qn ws) (qd ws) 1 x y k (limits .least-qd) (omega (arith, limits .least-q)) h l (close-more (s .close) 1 (omega (arith, s .fewer))) (omega arith) r))
+      (range-ways fs ws ok x y h p up keeps l)
 
   sharp : Sharp p fs ws (entries ws) (theta ws) (qn ws, qd ws)
   sharp = record { sharper = sharper; whole = whole-ranges fs ws ok p (up .positive) keeps }

@@ -53,19 +53,19 @@ abbrev pub numbersFactor : ℕ × ℕ
 numbersFactor = (form .leastQn, form .leastQd)
 
 -- each is at most p times the other
-pub record AtMost (p : ℕ × ℕ) (count number : ℕ) : Type 0 where
+pub record WithinFactor (p : ℕ × ℕ) (count number : ℕ) : Type 0 where
   pub count-at-most : p .1 * count ≤ p .0 * number
   pub number-at-most : p .1 * number ≤ p .0 * count
 
 -- numbers that stand for counts keep to p
 abbrev pub Keep : ℕ × ℕ → (ℕ → ℕ) → Type 0
-Keep p number = (v : ℕ) → v ≤ limit → AtMost p v (number v)
+Keep p number = (v : ℕ) → v ≤ limit → WithinFactor p v (number v)
 
 -- each whole bucketlet that is not empty, and each whole bucket, is within p of its count
 pub record WholeWithin (p : ℕ × ℕ) (fs ws : List ℕ) : Type 0 where
   pub bucketlets : (b j : ℕ) → b < buckets ws → j < 8 → 0 < widthAt (bucketAt ws b) j
-      → AtMost p (partSum (bucketletStart (bucketAt ws b) j) (widthAt (bucketAt ws b) j) fs) (numberAt (bucketAt ws b) j)
-  pub totals : (b : ℕ) → b < buckets ws → AtMost p (partSum (start ws b) (span ws b) fs) (totalNumber (bucketAt ws b .total))
+      → WithinFactor p (partSum (bucketletStart (bucketAt ws b) j) (widthAt (bucketAt ws b) j) fs) (numberAt (bucketAt ws b) j)
+  pub totals : (b : ℕ) → b < buckets ws → WithinFactor p (partSum (start ws b) (span ws b) fs) (totalNumber (bucketAt ws b .total))
 
 -- p is a factor from 1 to q
 pub record UpTo (q p : ℕ × ℕ) : Type 0 where

@@ -6,8 +6,6 @@ use mathlib.Core.Bool.{true, false}
 use mathlib.Core.List.{List, [], _∷_, _++_}
 use Prim.Native.Nat.{ℕ, _+_, _-_, _*_}
 use lib.Dec.{leb, ltb}
-use lib.ListN.{replicate}
-use Rattle.counts_rules.specs.Class.{classValue}
 use Rattle.words_rules.specs.Worked.{zeros}
 use Rattle.list_rules.specs.Quality.{quality}
 use Rattle.fit.specs.Accepted.{accepted}
@@ -15,7 +13,7 @@ use Rattle.build_rules.specs.Words.{words}
 use Rattle.laws.specs.Reply.{answered}
 use Rattle.estimate_rules.specs.Search.{searchReply}
 use Rattle.accuracy.specs.Claims.{count, answer, countOf, answerOf, Distance, Rule, ShorterRule}
-use Rattle.accuracy.specs.Sharper.{sharpFactor, numbersFactor, AtMost, SharperRule, Sharp}
+use Rattle.accuracy.specs.Sharper.{sharpFactor, numbersFactor, SharperRule, Sharp}
 
 -- a number between two spikes, each in a bucketlet of 9 entries that stands for 93; theta is 98, which excuses a spike
 abbrev pub spikes : ℕ → List ℕ
@@ -71,24 +69,28 @@ spiked = 19 ∷ 98 ∷ 0x1404 ∷ 1 ∷ 0x40000209 ∷ 0x8E3CE000 ∷ 0x800009C2
 abbrev pub rounding : List ℕ
 rounding = 4 ∷ 1 ∷ 0x4408 ∷ 1 ∷ 0x40000202 ∷ 0x83240000 ∷ 0x80000240 ∷ 0xC0080000 ∷ 0xC0000000 ∷ []
 
--- seven 10s between two 9s, among words that no longer occur
+-- whole bucketlets that count 10, 5, 10, 5 and 10, between two 2s among words that no longer occur
 abbrev pub tens : List ℕ
-tens =
-    replicate 19 0 ++ (9 ∷ 10 ∷ 0 ∷ 10 ∷ 0 ∷ 10 ∷ 0 ∷ 10 ∷ 0 ∷ 10 ∷ 0 ∷ 10 ∷ 0 ∷ 10 ∷ 0 ∷ 9 ∷ []) ++ replicate 25 0
+tens = 0 ∷ 0 ∷ 0 ∷ 2 ∷ 10 ∷ 5 ∷ 10 ∷ 5 ∷ 10 ∷ 2 ∷ 0 ∷ 0 ∷ 0 ∷ []
 
--- with theta 9, which excuses a 9, and q 5/4: each 10 in a bucketlet of its own, as 8, and each 9 in a wide one
+-- with theta 2, which excuses a 2, and q 5/4: each 10 as 8, each 5 as 4, and each 2 in a bucketlet of four entries
 abbrev pub eights : List ℕ
-eights =
-    60 ∷ 9 ∷ 0x1404 ∷ 2
-    ∷ 0x40000214 ∷ 0x871C01C0 ∷ 0x87007620 ∷ 0xC0040201 ∷ 0xC0040201
-    ∷ 0x40006E01 ∷ 0x801C01C0 ∷ 0x871C04E0 ∷ 0xC0040201 ∷ 0xC004021B ∷ []
+eights = 13 ∷ 2 ∷ 0x1404 ∷ 1 ∷ 0x40000204 ∷ 0x831C51C5 ∷ 0x870C0580 ∷ 0xC0040201 ∷ 0xC0040204 ∷ []
 
--- 10 between two 9s, with theta 9 and q 2, not as the builder makes it: each 9 in a bucketlet of 12 entries and the 10 alone, all three as 6
-abbrev pub ten : List ℕ
-ten = replicate 11 0 ++ (9 ∷ 10 ∷ 9 ∷ []) ++ replicate 11 0
+-- 1 and 1 between two 7s among words that no longer occur
+abbrev pub sevens : List ℕ
+sevens = 0 ∷ 0 ∷ 0 ∷ 0 ∷ 0 ∷ 7 ∷ 1 ∷ 1 ∷ 7 ∷ 0 ∷ 0 ∷ 0 ∷ 0 ∷ 0 ∷ []
 
-abbrev pub sixes : List ℕ
-sixes = 25 ∷ 9 ∷ 0x801 ∷ 1 ∷ 0x4000020C ∷ 0x86186000 ∷ 0x80000380 ∷ 0xC0041800 ∷ 0xC0000000 ∷ []
+-- with theta 7, which excuses a 7, and q 5/4: each 7 in a bucketlet of six entries that stands for 6, and both 1s in one
+abbrev pub sixths : List ℕ
+sixths = 14 ∷ 7 ∷ 0x1404 ∷ 1 ∷ 0x40000206 ∷ 0x860C6000 ∷ 0x80000200 ∷ 0xC0080C00 ∷ 0xC0000000 ∷ []
+
+-- 6 between two 5s, with theta 5 and q 2, not as the builder makes it: each 5 in a bucketlet of 6 entries and the 6 alone, all three as 3
+abbrev pub six : List ℕ
+six = 0 ∷ 0 ∷ 0 ∷ 0 ∷ 0 ∷ 5 ∷ 6 ∷ 5 ∷ 0 ∷ 0 ∷ 0 ∷ 0 ∷ 0 ∷ []
+
+abbrev pub threes : List ℕ
+threes = 13 ∷ 5 ∷ 0x801 ∷ 1 ∷ 0x40000206 ∷ 0x84104000 ∷ 0x80000200 ∷ 0xC0040C00 ∷ 0xC0000000 ∷ []
 
 pub record Worked : Type 0 where
   pub all-accepted : accepted (spikes 116) large ∷ accepted (spikes 17) small ∷ accepted (116 ∷ 1 ∷ []) alone ∷ [] ≡ true ∷ true ∷ true ∷ []
@@ -130,28 +132,32 @@ pub record WorkedSharper : Type 0 where
   -- for q 2 and k 3, 12 and 100 the factor is 15/4, 24/11 and 200/99
   pub factors : sharpFactor numbersFactor (2, 1) 3 ∷ sharpFactor numbersFactor (2, 1) 12 ∷ sharpFactor numbersFactor (2, 1) 100 ∷ [] ≡ (15, 4) ∷ (24, 11) ∷ (200, 99) ∷ []
   pub all-built :
-      words (quality 1 2 1) (8 ∷ 2 ∷ []) ∷ words (quality 98 5 4) (spikes 116) ∷ words (quality 1 17 8) (2 ∷ 0 ∷ 4 ∷ 12 ∷ []) ∷ words (quality 9 5 4) tens ∷ []
-      ≡ halved ∷ spiked ∷ rounding ∷ eights ∷ []
-  pub counts : count (8 ∷ 2 ∷ []) 0 1 ∷ count (spikes 116) 8 11 ∷ count (2 ∷ 0 ∷ 4 ∷ 12 ∷ []) 1 3 ∷ count tens 19 35 ∷ [] ≡ 8 ∷ 296 ∷ 4 ∷ 88 ∷ []
-  pub answers : answer halved 0 1 ∷ answer spiked 8 11 ∷ answer rounding 1 3 ∷ answer eights 19 35 ∷ [] ≡ 4 ∷ 152 ∷ 10 ∷ 57 ∷ []
+      words (quality 1 2 1) (8 ∷ 2 ∷ []) ∷ words (quality 98 5 4) (spikes 116) ∷ words (quality 1 17 8) (2 ∷ 0 ∷ 4 ∷ 12 ∷ [])
+      ∷ words (quality 2 5 4) tens ∷ words (quality 7 5 4) sevens ∷ []
+      ≡ halved ∷ spiked ∷ rounding ∷ eights ∷ sixths ∷ []
+  pub counts :
+      count (8 ∷ 2 ∷ []) 0 1 ∷ count (spikes 116) 8 11 ∷ count (2 ∷ 0 ∷ 4 ∷ 12 ∷ []) 1 3 ∷ count tens 3 10 ∷ count sevens 5 9 ∷ []
+      ≡ 8 ∷ 296 ∷ 4 ∷ 44 ∷ 16 ∷ []
+  pub answers :
+      answer halved 0 1 ∷ answer spiked 8 11 ∷ answer rounding 1 3 ∷ answer eights 3 10 ∷ answer sixths 5 9 ∷ []
+      ≡ 4 ∷ 152 ∷ 10 ∷ 33 ∷ 4 ∷ []
   -- k 6: 8 is above 6 theta; it is within q times k/(k - 1) of 4, and not within 5/4 times k/(k - 2)
   pub one-cut : ltb (6 * 1) 8 ∷ leb (1 * (6 - 1) * 8) (2 * 6 * 4) ∷ leb (4 * (6 - 2) * 8) (5 * 6 * 4) ∷ [] ≡ true ∷ true ∷ false ∷ []
   -- k 3: 296 is above 3 theta; it is within 5/4 times k/(k - 2) of 152, and not within q times k/(k - 1)
   pub two-cuts : ltb (3 * 98) 296 ∷ leb (4 * (3 - 2) * 296) (5 * 3 * 152) ∷ leb (4 * (3 - 1) * 296) (5 * 3 * 152) ∷ [] ≡ true ∷ true ∷ false ∷ []
   -- k 9: 10 is above 9 theta; it is not within q times k/(k - 1) of 4, and 10 less one is
   pub one-off : ltb (9 * 1) 10 ∷ ltb (8 * (9 - 1) * 10) (17 * 9 * 4) ∷ ltb (8 * (9 - 1) * (10 - 1)) (17 * 9 * 4) ∷ [] ≡ true ∷ false ∷ true ∷ []
-  -- k 9: 88 is above 9 theta; it is within 5/4 times k/(k - 2) of 57, and neither within 6/5 times k/(k - 2) nor within q times k/(k - 1)
+  -- k 21: 44 is above 21 theta; it is within 5/4 times k/(k - 2) of 33, and neither within 6/5 times k/(k - 2) nor within q times k/(k - 1)
   pub needs-5/4 :
-      ltb (9 * 9) 88 ∷ leb (4 * (9 - 2) * 88) (5 * 9 * 57) ∷ leb (5 * (9 - 2) * 88) (6 * 9 * 57) ∷ leb (4 * (9 - 1) * 88) (5 * 9 * 57) ∷ []
+      ltb (21 * 2) 44 ∷ leb (4 * (21 - 2) * 44) (5 * 21 * 33) ∷ leb (5 * (21 - 2) * 44) (6 * 21 * 33) ∷ leb (4 * (21 - 1) * 44) (5 * 21 * 33) ∷ []
       ≡ true ∷ true ∷ false ∷ false ∷ []
-  -- a whole bucketlet that counts 5 stands for 4
-  pub whole-5 : AtMost numbersFactor 5 (classValue 5)
-  -- so the rule is as it should be: with either half alone, with nothing taken off, with 6/5 for 5/4 or from a smaller multiple of theta on (`small`)
-  -- it would fail here
+  -- k 3: 16 is above 2 theta and not above 3 theta; it is not within 5/4 times k/(k - 2) of 4
+  pub below-theta : ltb (2 * 7) 16 ∷ ltb (3 * 7) 16 ∷ leb (4 * (3 - 2) * 16) (5 * 3 * 4) ∷ [] ≡ true ∷ false ∷ false ∷ []
+  -- so the rule is as it should be: with either half alone, with nothing taken off, with 6/5 for 5/4 or from a smaller multiple of theta on it would fail here
   pub rules :
       SharperRule numbersFactor 1 (2, 1) 6 8 4 × SharperRule numbersFactor 98 (5, 4) 3 296 152 × SharperRule numbersFactor 1 (17, 8) 9 4 10
-      × SharperRule numbersFactor 9 (5, 4) 9 88 57 × SharperRule numbersFactor 98 (5, 4) 3 197 38
-  -- a histogram that is accepted and not the builder's: it counts 28 and answers 7, so that it does not keep to the rule
-  pub other-accepted : accepted ten sixes ≡ true
-  pub other-answered : count ten 11 14 ∷ answer sixes 11 14 ∷ [] ≡ 28 ∷ 7 ∷ []
-  pub other-beyond : Sharp numbersFactor ten sixes 25 9 (2, 1) → ⊥
+      × SharperRule numbersFactor 2 (5, 4) 21 44 33 × SharperRule numbersFactor 7 (5, 4) 3 16 4
+  -- a histogram that is accepted and not the builder's: it counts 16 and answers 4, so that it does not keep to the rule
+  pub other-accepted : accepted six threes ≡ true
+  pub other-answered : count six 5 8 ∷ answer threes 5 8 ∷ [] ≡ 16 ∷ 4 ∷ []
+  pub other-beyond : Sharp numbersFactor six threes 13 5 (2, 1) → ⊥
