@@ -49,6 +49,11 @@ impl Used {
         self.numerator * other.denominator > other.numerator * self.denominator
     }
 
+    /// Whether it is more than the whole factor.
+    pub fn is_above_all(self) -> bool {
+        self.numerator > self.denominator
+    }
+
     pub fn value(self) -> f64 {
         self.numerator as f64 / self.denominator as f64
     }
@@ -127,11 +132,6 @@ impl Rule {
     pub fn promise(self) -> f64 {
         f64::from(self.bound.qn) * self.k as f64 / (f64::from(self.bound.qd) * self.above() as f64)
     }
-}
-
-/// What demand 3 promises.
-pub fn promise(bound: Bound, k: u32) -> f64 {
-    Rule::of_one_range(bound, k).promise()
 }
 
 /// The rule for the largest k for which it speaks of the ranges, if that is above 2r. It asks for most, since the

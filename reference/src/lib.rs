@@ -1,5 +1,5 @@
-//! A reference for document 01 with requests (i), (ii), (iv) and (v) of document 02, written from their
-//! text and meant to be read beside it, and the comparison of another program with it.
+//! A reference for document 01 with requests (i), (ii), (iv), (v) and (vi) of document 02, written from
+//! their text and meant to be read beside it, and the comparison of another program with it.
 
 // The sections of document 01.
 pub mod big;
@@ -16,8 +16,9 @@ pub mod words;
 pub mod search;
 pub mod worksheet;
 
-// Demand 3, and the same rule for a search.
+// Demand 3 and the same rule for a search, and the sharper rule of request (vi).
 pub mod demand;
+pub mod sharper;
 
 // Those who answer the calls.
 pub mod broken;

@@ -22,6 +22,17 @@ fn a_right_program_passes() {
     }
 }
 
+const WHOLES: &str = "build: whole bucketlets and buckets within 5/4";
+
+/// A group that must find a fault, whichever others do.
+const FOUND_BY: [(Fault, &str); 5] = [
+    (Fault::ClassHigherWithinQ, WHOLES),
+    (Fault::ClassLowerWithinQ, WHOLES),
+    (Fault::TotalHighestWithinQ, WHOLES),
+    (Fault::TotalLowestWithinQ, WHOLES),
+    (Fault::ClassBelowRead, "estimate: the sharper rule, directed lists"),
+];
+
 /// Fails unless a fault is found in its call and nowhere else.
 fn expect_found(fault: Fault, call: &'static str) {
     let (passed, out) = compared(&Broken { fault, call });
@@ -30,6 +41,10 @@ fn expect_found(fault: Fault, call: &'static str) {
     let failed: Vec<&str> = out.lines().filter_map(|line| line.strip_prefix("FAILED  ")).collect();
     assert!(!failed.is_empty(), "{fault:?} in {call}: {out}");
     assert!(failed.iter().all(|group| group.starts_with(call)), "{fault:?} in {call}: {failed:?}");
+    for (_, group) in FOUND_BY.iter().filter(|known| known.0 == fault) {
+        let found = failed.iter().any(|line| line.starts_with(&format!("{group}: ")));
+        assert!(found, "{fault:?} not by {group}: {failed:?}");
+    }
 }
 
 #[test]

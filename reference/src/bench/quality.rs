@@ -5,10 +5,10 @@ use super::rivals::{Rival, BYTES_OF_DEPTH, BYTES_OF_WIDTH};
 use super::table::{grouped, Table};
 use super::times::built;
 use crate::coding::code_number;
-use crate::demand::promise;
 use crate::estimate::exact_of;
 use crate::list::{running_sums, Bound};
 use crate::program::Program;
+use crate::sharper::Sharper;
 use crate::words::{read, Bucket};
 
 const THETAS: [u32; 3] = [20, 100, 1_000];
@@ -98,10 +98,10 @@ fn explain() {
         "\
 Sizes, and the largest factor seen between count and estimate, with q 2: count / estimate or (estimate - 1) / count,
 over {ranges} ranges of all lengths, of which those are taken where one of the two is above 3, 12 or 100 times theta.
-The factor promised there is proved; that of a rival is infinite where its estimate is above and the count is 0. A
-list has 4 bytes a frequency. The two rivals have the same bytes and no head: equi-depth {BYTES_OF_DEPTH} bytes a bucket
-(2 for a boundary, 4 for an exact count), equi-width {BYTES_OF_WIDTH} (an exact count; the boundaries follow).
-Both give of a cut bucket the share by length, and round up once.
+The factor promised there is proved, of the builder's own histograms; that of a rival is infinite where its estimate is
+above and the count is 0. A list has 4 bytes a frequency. The two rivals have the same bytes and no head: equi-depth
+{BYTES_OF_DEPTH} bytes a bucket (2 for a boundary, 4 for an exact count), equi-width {BYTES_OF_WIDTH} (an exact count;
+the boundaries follow). Both give of a cut bucket the share by length, and round up once.
 ",
         ranges = grouped(RANGES as u64)
     );
@@ -110,7 +110,7 @@ Both give of a cut bucket the share by length, and round up once.
 pub fn print(proved: &dyn Program, lists: &[List]) {
     let mut head: Vec<String> = ["list", "theta", "bytes", "of the list"].map(String::from).to_vec();
     for k in KS {
-        let promised = promise(Bound::new(1, 2, 1), k);
+        let promised = Sharper { bound: Bound::new(1, 2, 1), k: k.into() }.promise();
         let promised = format!("{promised:.4}");
         let promised = promised.trim_end_matches('0').trim_end_matches('.');
         head.push(format!("above {k} theta, promised {promised}"));

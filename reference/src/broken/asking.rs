@@ -51,6 +51,11 @@ fn class_0_as_1(bucket: &mut Bucket) {
     }
 }
 
+/// Each class becomes the one below it.
+fn classes_below(bucket: &mut Bucket) {
+    bucket.classes = bucket.classes.map(|class| class.saturating_sub(1));
+}
+
 /// The words with a valid code in place of code 0, if it is taken beside the second word of its bucket.
 fn with_code_0_taken(words: &[u32], taken: impl Fn(u32) -> bool) -> Vec<u32> {
     let mut words = words.to_vec();
@@ -97,8 +102,10 @@ impl Broken {
 
     /// A histogram as those who estimate by it take it.
     pub(super) fn as_read(&self, mut histogram: Histogram) -> Histogram {
-        if self.fault == Class0EstimatedAt1 {
-            histogram.buckets.iter_mut().for_each(class_0_as_1);
+        match self.fault {
+            Class0EstimatedAt1 => histogram.buckets.iter_mut().for_each(class_0_as_1),
+            ClassBelowRead => histogram.buckets.iter_mut().for_each(classes_below),
+            _ => {}
         }
         histogram
     }

@@ -3,10 +3,11 @@
 use super::Fault::*;
 use super::{holds_zero, Broken, RIGHT, SHORT};
 use crate::build::{fault, grow, lay_out, lend};
-use crate::coding::{class_for, class_number};
+use crate::coding::{class_for, class_in_use, class_number};
 use crate::fits::first_failing;
+use crate::generate::foreign::codes_within;
 use crate::list::{count, Bound};
-use crate::words::{write, Histogram};
+use crate::words::{write, Bucket, Histogram};
 
 fn fits_at(rest: &[u32], width: usize, bound: Bound) -> bool {
     let part = &rest[..width];
@@ -32,6 +33,19 @@ fn width_by_halving(rest: &[u32], limit: usize, bound: Bound) -> usize {
     good
 }
 
+/// Gives each bucketlet another class, where that fits as well.
+fn recode_classes(frequencies: &[u32], bound: Bound, bucket: &mut Bucket, other: impl Fn(u32) -> u32) {
+    let mut rest = &frequencies[bucket.start as usize..];
+    for (class, &width) in bucket.classes.iter_mut().zip(&bucket.widths) {
+        let (part, after) = rest.split_at(width as usize);
+        rest = after;
+        let fits = |class: u32| class_in_use(class) && first_failing(part, class_number(class).into(), bound).is_none();
+        if *class > 0 && part.len() <= SHORT && fits(other(*class)) {
+            *class = other(*class);
+        }
+    }
+}
+
 impl Broken {
     fn grow(&self, rest: &[u32], limit: usize, bound: Bound) -> usize {
         match self.fault {
@@ -51,13 +65,27 @@ impl Broken {
         }
     }
 
+    /// Changes what is coded, but so that it is accepted still.
+    fn recode(&self, frequencies: &[u32], bound: Bound, bucket: &mut Bucket) {
+        let whole = &frequencies[bucket.start as usize..bucket.end() as usize];
+        let codes = || codes_within(count(whole), bound);
+        match self.fault {
+            ClassHigherWithinQ => recode_classes(frequencies, bound, bucket, |class| class + 1),
+            ClassLowerWithinQ => recode_classes(frequencies, bound, bucket, |class| class - 1),
+            TotalHighestWithinQ => bucket.total = codes()[codes().len() - 1],
+            TotalLowestWithinQ => bucket.total = codes()[0],
+            _ => {}
+        }
+    }
+
     /// The histogram of a list; refusals 1, 3 to 5 and 24.
     pub(super) fn histogram(&self, frequencies: &[u32], bound: Bound) -> Result<Histogram, u32> {
         if self.fault == AboveEightBeforeTheList && bound.q_too_large() {
             return Err(24);
         }
         fault(frequencies, self.judged(bound))?;
-        let buckets = lay_out(frequencies, |rest, limit| self.grow(rest, limit, bound));
+        let mut buckets = lay_out(frequencies, |rest, limit| self.grow(rest, limit, bound));
+        buckets.iter_mut().for_each(|bucket| self.recode(frequencies, bound, bucket));
         Ok(Histogram::new(bound, buckets))
     }
 

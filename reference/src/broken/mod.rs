@@ -3,7 +3,8 @@
 //! 01's missteps; those about a zero, about 0 and about the 1 are missteps of request (iv), those
 //! about eight and nine, each of them in one call at a time, of request (v), those about running totals,
 //! places, answers and worksheets of request (i), and those about searches, their number of ranges and
-//! their order of request (ii).
+//! their order of request (ii). Histograms whose classes or totals are others within q are accepted, but
+//! do not keep to request (vi), nor does an estimate by classes that are too low.
 
 mod asking;
 mod building;
@@ -44,6 +45,10 @@ faults! {
     RestCleared: "build" | "fill" | "answer",
     WordsBeforeRefusal: "build",
     ZeroFrequencyRefusedByBuilder: "build",
+    ClassHigherWithinQ: "build",
+    ClassLowerWithinQ: "build",
+    TotalHighestWithinQ: "build",
+    TotalLowestWithinQ: "build",
     WholeExcused: "check",
     ByEndThenStart: "check",
     TotalsNotChecked: "check",
@@ -54,6 +59,7 @@ faults! {
     SumOf0AnsweredWith0: "estimate" | "answer" | "search",
     EmptyRangeAnsweredWith1: "estimate" | "answer" | "search",
     Class0EstimatedAt1: "estimate" | "answer" | "search",
+    ClassBelowRead: "estimate",
     FoundOneLate: "find",
     Class0AtAWidthRefused: "find",
     Code0AlwaysValid: "find",

@@ -79,19 +79,6 @@ fn lent_bytes(bytes: &mut [u8]) -> &mut Sheet {
     bytes.first_chunk_mut().expect("enough bytes are lent")
 }
 
-/// The sum of what the single call answers, or its first refusal.
-fn one_by_one(program: &dyn Program, words: &[u32], ranges: &[u32]) -> QhEstimate {
-    let mut sum = QhEstimate::default();
-    for (x, y) in pairs(ranges) {
-        let QhEstimate { refusal, estimate } = program.estimate(words, x, y);
-        if refusal > 0 {
-            return Err(refusal).into();
-        }
-        sum.estimate += estimate;
-    }
-    sum
-}
-
 impl Comparison<'_> {
     pub(super) fn coding(&mut self, group: Group, value: u32, call: fn(&dyn Program, u32) -> QhCoded) {
         let (expected, got) = (call(&REFERENCE, value), call(self.program, value));
@@ -101,7 +88,7 @@ impl Comparison<'_> {
     }
 
     /// Makes a call to both programs, each with the same contents of what is lent and lies beyond it, and hands back
-    /// the reference's answer and what it left there.
+    /// the answers and what was left there, the reference's first.
     fn lent<T: Clone + PartialEq + Debug, A: PartialEq + Debug>(
         &mut self,
         group: Group,
@@ -109,17 +96,17 @@ impl Comparison<'_> {
         contents: Vec<T>,
         call: impl Fn(&dyn Program, &mut [T]) -> A,
         input: impl Fn() -> String,
-    ) -> (A, Vec<T>) {
+    ) -> [(A, Vec<T>); 2] {
         let (mut right, mut other) = (contents.clone(), contents);
         let expected = call(&reference, &mut right);
         let got = call(self.program, &mut other);
         let differs = expected != got || right != other;
         let text = differs.then(|| mismatch(&input(), &expected, &got) + &difference(&right, &other));
         self.note(group, text);
-        (expected, right)
+        [(expected, right), (got, other)]
     }
 
-    /// Compares a build into `lent` words and hands back the reference's words.
+    /// Compares a build into `lent` words, tests what is built, and hands back the reference's words.
     pub(super) fn build(
         &mut self,
         group: Group,
@@ -130,7 +117,10 @@ impl Comparison<'_> {
     ) -> Option<Vec<u32>> {
         let call = |program: &dyn Program, words: &mut [u32]| program.build(frequencies, bound, &mut words[..lent]);
         let input = || format!("{}, {bound}, {lent} words lent", shown(frequencies));
-        let (expected, mut words) = self.lent(group, Reference(way), lent_words(lent), call, input);
+        let [(expected, mut words), (got, others)] = self.lent(group, Reference(way), lent_words(lent), call, input);
+        if got.refusal == 0 {
+            self.wholes(frequencies, bound, &others[..got.words.min(lent)]);
+        }
         words.truncate(expected.words);
         (expected.refusal == 0).then_some(words)
     }
@@ -152,10 +142,17 @@ impl Comparison<'_> {
         self.estimate_as(group, words, (x, y), REFERENCE.estimate(words, x, y));
     }
 
+    /// Makes the other program's single call, whose answer by the builder's own words is tested as well.
+    fn answer_of(&mut self, words: &[u32], (x, y): (u32, u32)) -> QhEstimate {
+        let answer = self.program.estimate(words, x, y);
+        self.sharper_rule(words, (x, y), answer);
+        answer
+    }
+
     /// Compares an estimate with one that is known.
     fn estimate_as(&mut self, group: Group, words: &[u32], (x, y): (u32, u32), expected: QhEstimate) {
         self.counts.estimates += 1;
-        let got = self.program.estimate(words, x, y);
+        let got = self.answer_of(words, (x, y));
         let differs = expected != got;
         let text = differs.then(|| {
             let input = format!("{x}..{y} by {}", hexadecimal(words));
@@ -192,7 +189,7 @@ impl Comparison<'_> {
             let totals = shortened(format!("{totals:?}"));
             format!("{}, {lent} places lent, totals {totals}, by {}", shown(ranges), hexadecimal(words))
         };
-        let (QhAnswered { answers, .. }, estimates) = self.lent(group, REFERENCE, lent_places(*lent), call, input);
+        let [(QhAnswered { answers, .. }, estimates), _] = self.lent(group, REFERENCE, lent_places(*lent), call, input);
         self.counts.worksheets += 1;
         self.counts.answers += answers as u64;
         for (range, &estimate) in pairs(ranges).zip(&estimates[..answers]) {
@@ -213,10 +210,23 @@ impl Comparison<'_> {
             self.counts.summed += ranges.len() as u64 / 2;
         }
         if matches!(expected.refusal, 0 | 14) {
-            let alone = one_by_one(self.program, words, ranges);
+            let alone = self.one_by_one(words, ranges);
             let differs = expected != alone;
             self.note(Group::EstimateSearches, differs.then(|| mismatch(&input(), expected, alone)));
         }
+    }
+
+    /// The sum of what the single call answers, or its first refusal.
+    fn one_by_one(&mut self, words: &[u32], ranges: &[u32]) -> QhEstimate {
+        let mut sum = QhEstimate::default();
+        for range in pairs(ranges) {
+            let QhEstimate { refusal, estimate } = self.answer_of(words, range);
+            if refusal > 0 {
+                return Err(refusal).into();
+            }
+            sum.estimate += estimate;
+        }
+        sum
     }
 
     pub(super) fn sheet(&mut self, group: Group, input: &[u8]) {

@@ -4,7 +4,7 @@ use super::Comparison;
 use super::Group::*;
 use crate::demand::{KS, SIDES};
 use crate::generate::directed::{directed, jostled, known, Directed};
-use crate::generate::ranges::some_ranges;
+use crate::generate::ranges::ranges_about;
 use crate::generate::Random;
 use crate::search::MOST_RANGES;
 use crate::words::write;
@@ -51,18 +51,20 @@ impl Comparison<'_> {
     fn directed_list(&mut self, random: &mut Random, directed: &Directed) {
         self.counts.lists += 1;
         self.counts.foreign += 1;
-        let frequencies = &directed.frequencies;
-        let words = write(&directed.histogram);
-        let d = frequencies.len() as u32;
-        let near = |at: u32| at.saturating_sub(2)..=(at + 2).min(d);
-        let aimed = near(directed.x).flat_map(|x| near(directed.y).map(move |y| (x, y)));
-        let mut ranges: Vec<_> = aimed.filter(|(x, y)| x <= y).collect();
-        ranges.extend(some_ranges(random, d, 20));
+        let Directed { frequencies, histogram, x, y } = directed;
+        let ranges = ranges_about(random, histogram.head.d, (*x, *y));
+        self.ask_directed(frequencies, &write(histogram), ranges);
+    }
+
+    /// Estimates the ranges and checks; answers whether the pair is accepted.
+    pub(super) fn ask_directed(&mut self, frequencies: &[u32], words: &[u32], ranges: Vec<(u32, u32)>) -> bool {
         for &range in &ranges {
-            self.estimate(EstimateDirected, &words, range);
+            self.estimate(EstimateDirected, words, range);
         }
-        if self.check(CheckDirected, frequencies, &words) {
-            self.demand_three((DemandDirected, SumsDirected), frequencies, &words, ranges);
+        let accepted = self.check(CheckDirected, frequencies, words);
+        if accepted {
+            self.demand_three((DemandDirected, SumsDirected), frequencies, words, ranges);
         }
+        accepted
     }
 }

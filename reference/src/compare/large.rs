@@ -75,7 +75,7 @@ impl Comparison<'_> {
             let theta = random.any_size((4 * top).clamp(1, MOST_THETA.into())) as u32;
             let (qn, qd) = random.pick(&[(5, 4), (3, 2), (2, 1), (999, 799)]);
             let bound = Bound::new(theta, qn, qd);
-            self.large_list(&mut random, (BuildWide, LARGE), &frequencies, bound);
+            self.large_list(&mut random, ((BuildWide, SharperLarge), LARGE), &frequencies, bound);
             if number % 12 == 0 {
                 self.faster_ways_agree(&frequencies, bound);
             }
@@ -94,7 +94,7 @@ impl Comparison<'_> {
     pub(super) fn large_list(
         &mut self,
         random: &mut Random,
-        (build, asking): (Group, Asking),
+        ((build, sharper), asking): ((Group, Group), Asking),
         frequencies: &[u32],
         bound: Bound,
     ) {
@@ -103,6 +103,7 @@ impl Comparison<'_> {
         let words = self.build(build, Way::FewerRanges, frequencies, bound, lent);
         let words = words.expect("the list is good and the words are enough");
         self.counts.built += 1;
+        self.own(sharper, frequencies, bound, &words);
         if !self.ask_large(random, asking, frequencies, &words, 300) {
             self.fail(build, &format!("not accepted: {} entries, {bound}", frequencies.len()));
         }
@@ -150,7 +151,7 @@ impl Comparison<'_> {
 
     pub(super) fn large_lists(&mut self) {
         let mut random = self.random(5);
-        let groups = (BuildLarge, LARGE);
+        let groups = ((BuildLarge, SharperLarge), LARGE);
         let longest = self.volume.longest;
         for kind in KINDS {
             for length in [longest, longest / 3] {
@@ -246,7 +247,7 @@ impl Comparison<'_> {
         let mut random = self.random(6);
         for frequencies in self.real.clone() {
             for bound in REAL_BOUNDS {
-                self.large_list(&mut random, (BuildReal, REAL), &frequencies, bound);
+                self.large_list(&mut random, ((BuildReal, SharperReal), REAL), &frequencies, bound);
                 self.faster_ways_agree(&frequencies, bound);
             }
         }

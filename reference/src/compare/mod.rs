@@ -6,6 +6,7 @@ mod directed;
 mod factors;
 mod large;
 mod searches;
+mod sharper;
 mod sheets;
 mod slips;
 mod small;
@@ -17,7 +18,9 @@ use crate::generate::slips::LAST_QD;
 use crate::generate::Random;
 use crate::program::Program;
 use factors::{no_largests, Largests};
+use sharper::{Mosts, Own};
 use std::io::Write;
+use std::rc::Rc;
 use std::time::Instant;
 
 macro_rules! groups {
@@ -43,6 +46,8 @@ groups! {
     BuildZeros: "build: lists with zeros",
     BuildRefused: "build: refusals and lent words",
     BuildSlips: "build: q about 8",
+    BuildDirected: "build: lists directed at the sharper rule",
+    BuildWholes: "build: whole bucketlets and buckets within 5/4",
     CheckBuilt: "check: built histograms",
     CheckForeign: "check: foreign histograms",
     CheckOther: "check: other lists than the one built for",
@@ -64,6 +69,14 @@ groups! {
     EstimateSlips: "estimate: q about 8",
     EstimateWorksheets: "estimate: each range of a worksheet",
     EstimateSearches: "estimate: the ranges of a search one by one",
+    SharperSmall: "estimate: the sharper rule, small lists",
+    SharperLarge: "estimate: the sharper rule, wide and large lists",
+    SharperReal: "estimate: the sharper rule, real lists",
+    SharperZeros: "estimate: the sharper rule, lists with zeros",
+    SharperDirected: "estimate: the sharper rule, directed lists",
+    SharperWorksheets: "estimate: the sharper rule, ranges of worksheets",
+    SharperSearches: "estimate: the sharper rule, ranges of searches",
+    SharperNear: "estimate: directed lists need both halves of the sharper factor",
     FindSmall: "find: built and foreign histograms",
     FindDamaged: "find: damaged words",
     FindRandom: "find: random words",
@@ -151,6 +164,8 @@ pub struct Volume {
     pub widest_accepted: bool,
     pub longest: usize,
     pub directed: usize,
+    /// How often each list that is directed at the sharper rule is changed.
+    pub near: usize,
     /// How many of `KS`, from the first on, lists are directed at for several ranges.
     pub ks_of_several: usize,
     pub sheets: usize,
@@ -167,6 +182,7 @@ impl Volume {
         widest_accepted: true,
         longest: 65_536,
         directed: 300,
+        near: 60,
         ks_of_several: KS.len(),
         sheets: 3_000,
         last_qd: LAST_QD,
@@ -181,6 +197,7 @@ impl Volume {
         widest_accepted: false,
         longest: 600,
         directed: 10,
+        near: 1,
         ks_of_several: 1,
         sheets: 120,
         last_qd: 4,
@@ -218,6 +235,9 @@ pub struct Comparison<'a> {
     real: Vec<Vec<u32>>,
     counts: Counts,
     largest: Largests,
+    /// The builder's histogram that is in hand, once there is one.
+    own: Option<Rc<Own>>,
+    most: Mosts,
     tallies: Vec<Tally>,
     /// What the bytes lent for a sheet hold before the call.
     sheet_contents: Vec<u8>,
@@ -242,6 +262,8 @@ impl<'a> Comparison<'a> {
             real,
             counts: Counts::default(),
             largest: no_largests(),
+            own: None,
+            most: Mosts::default(),
             tallies: vec![Tally::default(); GROUPS.len()],
             sheet_contents: calls::sheet_contents(),
             out,
@@ -262,10 +284,12 @@ impl<'a> Comparison<'a> {
         self.part("every bit", Comparison::every_bit);
         self.part("random words", Comparison::random_words);
         self.part("directed lists", Comparison::directed_lists);
+        self.part("the sharper rule", Comparison::lists_near_the_sharper_rule);
         self.part("worksheets", Comparison::worksheets);
         self.part("searches", Comparison::searches);
         self.part("sheets", Comparison::sheets);
         self.show_largest();
+        self.show_most();
         self.report()
     }
 

@@ -52,7 +52,7 @@ impl Comparison<'_> {
 
     /// A list's histogram and a foreign one, each in a group of its own.
     fn searches_of(&mut self, random: &mut Random, groups: [Group; 2], frequencies: &[u32], bound: Bound) {
-        let [built, foreign] = self.built_and_foreign(random, frequencies, bound);
+        let [built, foreign] = self.built_and_foreign(random, SharperSearches, frequencies, bound);
         let accepted = Accepted::new(frequencies, &built);
         for ranges in self.good_searches(random, groups[0], &built) {
             self.rule_for_search(SumsSearches, &accepted, &ranges);
@@ -164,6 +164,7 @@ impl Comparison<'_> {
         let words = write(&built);
         self.counts.lists += 1;
         self.counts.built += 1;
+        self.own(SharperSearches, frequencies, BOUNDS[0], &words);
         if frequencies.len() <= 4 {
             for ranges in every_few_words(words[0], self.volume.tiny + 1) {
                 self.search(SearchShort, &Search { words: words.clone(), ranges });

@@ -27,7 +27,8 @@ impl Comparison<'_> {
             self.counts.lists += 1;
             for turn in 0..6 {
                 let bound = bound(&mut random, &frequencies);
-                self.small_list(&mut random, (BuildSmall, BUILT, FOREIGN), &frequencies, bound, turn == 0);
+                let groups = ((BuildSmall, SharperSmall), BUILT, FOREIGN);
+                self.small_list(&mut random, groups, &frequencies, bound, turn == 0);
             }
         }
     }
@@ -36,7 +37,7 @@ impl Comparison<'_> {
     pub(super) fn small_list(
         &mut self,
         random: &mut Random,
-        (build, built, foreign): (Group, Asking, Asking),
+        ((build, sharper), built, foreign): ((Group, Group), Asking, Asking),
         frequencies: &[u32],
         bound: Bound,
         every: bool,
@@ -57,6 +58,7 @@ impl Comparison<'_> {
             _ => fitting(random, frequencies, bound),
         };
         self.counts.foreign += 1;
+        self.own(sharper, frequencies, bound, &words);
         if !self.ask_small(random, built, frequencies, &words, every) {
             self.fail(built.check, &format!("built and not accepted: {frequencies:?} {bound}"));
         }

@@ -32,6 +32,7 @@ impl Comparison<'_> {
     pub(super) fn built_and_foreign(
         &mut self,
         random: &mut Random,
+        sharper: Group,
         frequencies: &[u32],
         bound: Bound,
     ) -> [Vec<u32>; 2] {
@@ -39,14 +40,16 @@ impl Comparison<'_> {
         self.counts.built += 1;
         self.counts.foreign += 1;
         let built = histogram(Way::FewerRanges, frequencies, bound).expect("a good list");
-        [built, wild(random, frequencies, bound)].map(|histogram| write(&histogram))
+        let words = [built, wild(random, frequencies, bound)].map(|histogram| write(&histogram));
+        self.own(sharper, frequencies, bound, &words[0]);
+        words
     }
 
     fn worksheets_of_small_lists(&mut self, random: &mut Random) {
         for number in 0..self.volume.small / 5 {
             let frequencies = some_list(random, KINDS[number % KINDS.len()], 30);
             let bound = bound(random, &frequencies);
-            let histograms = self.built_and_foreign(random, &frequencies, bound);
+            let histograms = self.built_and_foreign(random, SharperWorksheets, &frequencies, bound);
             for (groups, words) in [(FillBuilt, AnswerBuilt), (FillForeign, AnswerForeign)].iter().zip(histograms) {
                 self.ask_worksheets(random, *groups, &words, 40);
                 self.answer(groups.1, &Worksheet::new(&words, all_ranges(words[0])));
@@ -56,7 +59,7 @@ impl Comparison<'_> {
 
     /// A list whose histogram and a foreign one are asked in the same groups.
     fn worksheets_of(&mut self, random: &mut Random, groups: (Group, Group), frequencies: &[u32], bound: Bound) {
-        for words in self.built_and_foreign(random, frequencies, bound) {
+        for words in self.built_and_foreign(random, SharperWorksheets, frequencies, bound) {
             self.ask_worksheets(random, groups, &words, 400.min(10 * frequencies.len()));
         }
     }
@@ -169,6 +172,7 @@ impl Comparison<'_> {
         let words = write(&built);
         self.counts.lists += 1;
         self.counts.built += 1;
+        self.own(SharperWorksheets, frequencies, BOUNDS[0], &words);
         let good = Worksheet::new(&words, ranges_about_edges(random, &built, 4));
         self.every_length(&good.roomy(random));
         self.two_faults_of(&good);

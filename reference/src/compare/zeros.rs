@@ -1,12 +1,14 @@
 //! Lists with zeros, and class 0 and code 0 where they fit and where they do not.
 
 use super::Group::*;
-use super::{Asking, Comparison};
+use super::{Asking, Comparison, Group};
 use crate::coding::code_for;
 use crate::generate::directed::bucket;
 use crate::generate::ranges::all_ranges;
 use crate::list::{count, Bound, COUNT_LIMIT, MOST_THETA};
 use crate::words::{write, Histogram};
+
+const BUILD: (Group, Group) = (BuildZeros, SharperZeros);
 
 const ZEROS: Asking =
     Asking { check: CheckZeros, estimate: EstimateZeros, find: FindSmall, demand: (DemandZeros, SumsZeros) };
@@ -60,7 +62,7 @@ impl Comparison<'_> {
     pub(super) fn lists_with_zeros(&mut self) {
         let mut random = self.random(12);
         let mut list = |comparison: &mut Self, frequencies: &[u32], bound: Bound| {
-            comparison.small_list(&mut random, (BuildZeros, ZEROS, ZEROS), frequencies, bound, true);
+            comparison.small_list(&mut random, (BUILD, ZEROS, ZEROS), frequencies, bound, true);
         };
         for (frequencies, bound) in LISTS {
             self.counts.lists += 1;
@@ -78,7 +80,7 @@ impl Comparison<'_> {
         }
         self.one_other_class();
         let zeros = vec![0; self.volume.longest];
-        self.large_list(&mut random, (BuildZeros, ZEROS), &zeros, Bound::new(1, 3, 2));
+        self.large_list(&mut random, (BUILD, ZEROS), &zeros, Bound::new(1, 3, 2));
     }
 
     /// Class 0 for a whole list, with code 0, the list's own and another.

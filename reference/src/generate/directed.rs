@@ -269,18 +269,23 @@ pub fn spikes(times: u32) -> DirectedSearch {
     }
 }
 
-/// A small change, with which the pair may or may not be accepted still.
-pub fn jostled(random: &mut Random, directed: &Directed) -> Directed {
-    let mut changed = directed.clone();
-    let place = random.place(&changed.frequencies);
-    let place = random.pick(&[place, changed.x as usize, changed.y as usize - 1]);
-    let frequency = &mut changed.frequencies[place];
-    let theta = &mut changed.histogram.head.bound.theta;
+/// A small change of a list or of its theta, often at an end of a range.
+pub fn jostle(random: &mut Random, frequencies: &mut [u32], theta: &mut u32, (x, y): (u32, u32)) {
+    let place = random.place(frequencies);
+    let place = random.pick(&[place, x as usize, y as usize - 1]);
+    let frequency = &mut frequencies[place];
     match random.below(4) {
         0 => *frequency = frequency.saturating_sub(1),
         1 => *frequency += 1,
         2 => *theta = (*theta - 1).max(1),
         _ => *theta = (*theta + 1).min(MOST_THETA),
     }
+}
+
+/// A small change, with which the pair may or may not be accepted still.
+pub fn jostled(random: &mut Random, directed: &Directed) -> Directed {
+    let mut changed = directed.clone();
+    let range = (changed.x, changed.y);
+    jostle(random, &mut changed.frequencies, &mut changed.histogram.head.bound.theta, range);
     changed
 }

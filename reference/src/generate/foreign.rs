@@ -20,7 +20,7 @@ pub fn wild(random: &mut Random, frequencies: &[u32], bound: Bound) -> Histogram
 
 /// A histogram whose every bucketlet and total fits, so that it is accepted.
 pub fn fitting(random: &mut Random, frequencies: &[u32], bound: Bound) -> Histogram {
-    let total = |random: &mut Random, f: u64, _: &[u32]| end_or_any(random, &codes()[codes_within(f, bound)]);
+    let total = |random: &mut Random, f: u64, _: &[u32]| end_or_any(random, codes_within(f, bound));
     assemble(random, frequencies, bound, total, |random, rest, widest| {
         let mut width = random.between(1, rest.len().min(widest) as u64) as usize;
         loop {
@@ -84,8 +84,13 @@ pub fn codes() -> &'static [u32] {
     })
 }
 
-/// Where the codes stand whose number lies within q of a count.
-fn codes_within(f: u64, bound: Bound) -> Range<usize> {
+/// The codes whose number lies within q of a count.
+pub fn codes_within(f: u64, bound: Bound) -> &'static [u32] {
+    &codes()[places_within(f, bound)]
+}
+
+/// Where they stand.
+fn places_within(f: u64, bound: Bound) -> Range<usize> {
     let (qn, qd) = (u64::from(bound.qn), u64::from(bound.qd));
     let number = |code: u32| u64::from(code_number(code));
     let from = codes().partition_point(|&code| qn * number(code) < qd * f);
@@ -109,7 +114,7 @@ fn class_near(random: &mut Random, f: u64, bound: Bound) -> u32 {
 }
 
 fn total_near(random: &mut Random, f: u64, classes: &[u32], bound: Bound) -> u32 {
-    let within = codes_within(f, bound);
+    let within = places_within(f, bound);
     // Beside other classes than 0, code 0 would not be read.
     let first = usize::from(classes.iter().any(|&class| class > 0));
     let (start, end) = (within.start.max(first), within.end.max(first + 1));

@@ -7,6 +7,7 @@ pub mod foreign;
 pub mod lists;
 pub mod ranges;
 pub mod searches;
+pub mod sharper;
 pub mod slips;
 pub mod worksheets;
 

@@ -24,6 +24,15 @@ pub fn some_ranges(random: &mut Random, d: u32, number: usize) -> Vec<(u32, u32)
     ranges
 }
 
+/// The ranges with ends beside those of one that is aimed at, and some others.
+pub fn ranges_about(random: &mut Random, d: u32, (x, y): (u32, u32)) -> Vec<(u32, u32)> {
+    let near = |at: u32| at.saturating_sub(2)..=(at + 2).min(d);
+    let aimed = near(x).flat_map(|x| near(y).map(move |y| (x, y)));
+    let mut ranges: Vec<_> = aimed.filter(|(x, y)| x <= y).collect();
+    ranges.extend(some_ranges(random, d, 20));
+    ranges
+}
+
 /// Ranges with ends at edges of buckets and of bucketlets and just beside them, and short ones, which often lie inside
 /// a bucketlet or are empty.
 pub fn ranges_about_edges(random: &mut Random, histogram: &Histogram, number: usize) -> Vec<(u32, u32)> {
