@@ -29,6 +29,11 @@
  *   below f times the other, with f = q * k / (k - 2). Of r ranges together, their counts and estimates added up, it is
  *   the same for every whole k above 2 * r, with f = q * k / (k - 2 * r). Whatever its size, the count of a range is at
  *   most q times the estimate plus 2 * theta, and the estimate at most q times the count plus 2 * theta.
+ *   On the list that it was built from a histogram of qh_build keeps more, for every range within the list and every
+ *   whole k of at least 3: where the count or the estimate is above k * theta, the count is at most f times the
+ *   estimate, and the estimate less one is below f times the count, with f the larger of 5 * k / (4 * (k - 2)) and
+ *   q * k / (k - 1). That is below q * k / (k - 2) if q is above 5/4. Of other histograms it is not promised, even if
+ *   qh_check accepts them.
  *
  * For every call
  *   - Nothing needs checking beforehand: each call answers every input, and none has a precondition but those under
