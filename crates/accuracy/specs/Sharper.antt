@@ -85,6 +85,7 @@ pub record Sharp (p : ℕ × ℕ) (fs ws : List ℕ) (d theta : ℕ) (q : ℕ ×
   pub whole : WholeRanges fs ws d (p .0) (p .1)
 
 pub record Sharpness : Type 0 where
+  -- it is not smaller than either
   pub larger-of-two : (a b : ℕ × ℕ) → NoLarger a (larger a b) × NoLarger b (larger a b)
   -- the factor is no larger than that of the general rule, and smaller where p is smaller than q
   pub no-larger : (p q : ℕ × ℕ) (k : ℕ) → UpTo q p → 3 ≤ k → NoLarger (sharpFactor p q k) (generalFactor q k)

@@ -70,12 +70,12 @@ abbrev pub rounding : List ℕ
 rounding = 4 ∷ 1 ∷ 0x4408 ∷ 1 ∷ 0x40000202 ∷ 0x83240000 ∷ 0x80000240 ∷ 0xC0080000 ∷ 0xC0000000 ∷ []
 
 -- whole bucketlets that count 10, 5, 10, 5 and 10, between two 2s among words that no longer occur
-abbrev pub tens : List ℕ
-tens = 0 ∷ 0 ∷ 0 ∷ 2 ∷ 10 ∷ 5 ∷ 10 ∷ 5 ∷ 10 ∷ 2 ∷ 0 ∷ 0 ∷ 0 ∷ []
+abbrev pub tensAndFives : List ℕ
+tensAndFives = 0 ∷ 0 ∷ 0 ∷ 2 ∷ 10 ∷ 5 ∷ 10 ∷ 5 ∷ 10 ∷ 2 ∷ 0 ∷ 0 ∷ 0 ∷ []
 
 -- with theta 2, which excuses a 2, and q 5/4: each 10 as 8, each 5 as 4, and each 2 in a bucketlet of four entries
-abbrev pub eights : List ℕ
-eights = 13 ∷ 2 ∷ 0x1404 ∷ 1 ∷ 0x40000204 ∷ 0x831C51C5 ∷ 0x870C0580 ∷ 0xC0040201 ∷ 0xC0040204 ∷ []
+abbrev pub eightsAndFours : List ℕ
+eightsAndFours = 13 ∷ 2 ∷ 0x1404 ∷ 1 ∷ 0x40000204 ∷ 0x831C51C5 ∷ 0x870C0580 ∷ 0xC0040201 ∷ 0xC0040204 ∷ []
 
 -- 1 and 1 between two 7s among words that no longer occur
 abbrev pub sevens : List ℕ
@@ -133,13 +133,13 @@ pub record WorkedSharper : Type 0 where
   pub factors : sharpFactor numbersFactor (2, 1) 3 ∷ sharpFactor numbersFactor (2, 1) 12 ∷ sharpFactor numbersFactor (2, 1) 100 ∷ [] ≡ (15, 4) ∷ (24, 11) ∷ (200, 99) ∷ []
   pub all-built :
       words (quality 1 2 1) (8 ∷ 2 ∷ []) ∷ words (quality 98 5 4) (spikes 116) ∷ words (quality 1 17 8) (2 ∷ 0 ∷ 4 ∷ 12 ∷ [])
-      ∷ words (quality 2 5 4) tens ∷ words (quality 7 5 4) sevens ∷ []
-      ≡ halved ∷ spiked ∷ rounding ∷ eights ∷ sixths ∷ []
+      ∷ words (quality 2 5 4) tensAndFives ∷ words (quality 7 5 4) sevens ∷ []
+      ≡ halved ∷ spiked ∷ rounding ∷ eightsAndFours ∷ sixths ∷ []
   pub counts :
-      count (8 ∷ 2 ∷ []) 0 1 ∷ count (spikes 116) 8 11 ∷ count (2 ∷ 0 ∷ 4 ∷ 12 ∷ []) 1 3 ∷ count tens 3 10 ∷ count sevens 5 9 ∷ []
+      count (8 ∷ 2 ∷ []) 0 1 ∷ count (spikes 116) 8 11 ∷ count (2 ∷ 0 ∷ 4 ∷ 12 ∷ []) 1 3 ∷ count tensAndFives 3 10 ∷ count sevens 5 9 ∷ []
       ≡ 8 ∷ 296 ∷ 4 ∷ 44 ∷ 16 ∷ []
   pub answers :
-      answer halved 0 1 ∷ answer spiked 8 11 ∷ answer rounding 1 3 ∷ answer eights 3 10 ∷ answer sixths 5 9 ∷ []
+      answer halved 0 1 ∷ answer spiked 8 11 ∷ answer rounding 1 3 ∷ answer eightsAndFours 3 10 ∷ answer sixths 5 9 ∷ []
       ≡ 4 ∷ 152 ∷ 10 ∷ 33 ∷ 4 ∷ []
   -- k 6: 8 is above 6 theta; it is within q times k/(k - 1) of 4, and not within 5/4 times k/(k - 2)
   pub one-cut : ltb (6 * 1) 8 ∷ leb (1 * (6 - 1) * 8) (2 * 6 * 4) ∷ leb (4 * (6 - 2) * 8) (5 * 6 * 4) ∷ [] ≡ true ∷ true ∷ false ∷ []
