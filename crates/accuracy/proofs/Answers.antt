@@ -40,9 +40,9 @@ answer-within d e f m n a w =
     one w = record { count-within = omega (arith, w .count-within); answer-within = w .answer-within }
 
 -- within a factor, without a rest, but for a count of 0
-whole-within : (d e f m n : ℕ) → 1 ≤ e → Answered m n → (e * f ≤ d * m) × (e * m ≤ d * f)
+answer-whole : (d e f m n : ℕ) → 1 ≤ e → Answered m n → (e * f ≤ d * m) × (e * m ≤ d * f)
     → (e * f ≤ d * n) × ((e * n ≤ d * f) ⊎ ((f ≡ 0) × (n ≡ 1)))
-whole-within d e f m n h a w =
+answer-whole d e f m n h a w =
     ⊎-elim
     (λ (s : n ≡ m). rw s (w .0, inl (w .1)))
     (λ (s : (m ≡ 0) × (n ≡ 1)).
@@ -71,4 +71,4 @@ module _ (fs ws : List ℕ) (ok : Fitting fs ws) where
   -- ranges that cut no bucketlet, by the factor that the numbers keep to
   pub whole-ranges : (p : ℕ × ℕ) → 1 ≤ p .1 → WholeWithin p fs ws → WholeRanges fs ws (entries ws) (p .0) (p .1)
   whole-ranges p pos keeps x y h l from to =
-      whole-within (p .0) (p .1) _ _ _ pos (answer-is x y h l) (uncut-within fs ws ok x y h from to p keeps l)
+      answer-whole (p .0) (p .1) _ _ _ pos (answer-is x y h l) (uncut-within fs ws ok x y h from to p keeps l)
