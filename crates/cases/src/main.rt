@@ -4,6 +4,7 @@ mod build_cases;
 mod check_cases;
 mod count_cases;
 mod estimate_cases;
+mod journal_cases;
 mod lists;
 mod print;
 mod reply;
@@ -19,4 +20,5 @@ fn main() {
     estimate_cases::run();
     search_cases::run();
     worksheet_cases::run();
+    journal_cases::run();
 }

@@ -10,6 +10,7 @@ use Rattle.qh.specs.declared.QhEstimate.{QhEstimate}
 use Rattle.qh.specs.declared.QhFilled.{QhFilled}
 use Rattle.qh.specs.declared.QhAnswered.{QhAnswered}
 use Rattle.qh.specs.declared.QhFound.{QhFound}
+use Rattle.qh.specs.declared.QhReplayed.{QhReplayed}
 
 abbrev pub codedOut : QhCoded → Reply
 codedOut r = record { refusal = r .refusal; value = r .value }
@@ -28,6 +29,9 @@ answeredOut r = record { refusal = r .refusal; value = r .answers }
 
 abbrev pub foundOut : QhFound → Reply
 foundOut r = record { refusal = r .refusal; value = r .at }
+
+abbrev pub replayedOut : QhReplayed → Reply
+replayedOut r = record { refusal = r .refusal; value = r .sum }
 
 -- the struct of a reply: accepted is 1 or 0
 abbrev pub verdictStruct : Answer → QhVerdict

@@ -11,6 +11,7 @@ use estimator::Answered;
 use estimator::Asked;
 use estimator::Filled;
 use finder::Place;
+use journal::Replayed;
 use sheet_rules::SHEET_BYTES;
 ghost use mathlib.Core.Path.{_≡_};
 ghost use lib.ListN.{length};
@@ -25,8 +26,9 @@ ghost use Rattle.estimate_rules.specs.Search.{searchReply};
 ghost use Rattle.estimate_rules.specs.Running.{fillReply, totalsFilled};
 ghost use Rattle.estimate_rules.specs.Worksheet.{worksheetReply, worksheetAnswered};
 ghost use Rattle.estimator.specs.Asked.{askedReply};
+ghost use Rattle.journal_rules.specs.Replaying.{replayReply, replayed};
 ghost use Rattle.sheet_rules.specs.Sheet.{sheet, filled};
-ghost use Rattle.qh.specs.Results.{codedOut, builtOut, estimateOut, filledOut, answeredOut, foundOut, verdictStruct};
+ghost use Rattle.qh.specs.Results.{codedOut, builtOut, estimateOut, filledOut, answeredOut, foundOut, replayedOut, verdictStruct};
 
 #[repr(C)]
 pub struct QhCoded {
@@ -72,6 +74,12 @@ pub struct QhAnswered {
 pub struct QhFound {
     pub refusal: u32,
     pub at: usize,
+}
+
+#[repr(C)]
+pub struct QhReplayed {
+    pub refusal: u32,
+    pub sum: u32,
 }
 
 fn coded(answer: Coded) -> QhCoded
@@ -266,6 +274,23 @@ pub extern "C" fn qh_find(words: &[u32], entry: u32) -> QhFound
     match finder::find_place(words, entry) {
         Place::At(at) => QhFound { refusal: 0, at },
         Place::Refused(refusal) => QhFound { refusal, at: 0 },
+    }
+}
+
+// Replays the lines of a journal, each an entry and a change to its frequency, over a list and answers the sum of the list afterwards; refused with 1,
+// 3, 25, 26 or 27, it writes nothing.
+#[no_mangle]
+pub extern "C" fn qh_replay_journal(
+    freqs: &mut [u32],
+    entries: &[u32],
+    changes: &[i32],
+) -> QhReplayed
+    ensures { λ r. ⌜ replayedOut r ≡ replayReply (now (freqs .entry)) (now (entries .entry)) (now (changes .entry)) ⌝ }
+    ensures { λ r. ⌜ now (freqs .exit) ≡ replayed (now (freqs .entry)) (now (entries .entry)) (now (changes .entry)) ⌝ }
+{
+    match journal::replay(freqs, entries, changes) {
+        Replayed::Sum(sum) => QhReplayed { refusal: 0, sum },
+        Replayed::Refused(refusal) => QhReplayed { refusal, sum: 0 },
     }
 }
 

@@ -1,0 +1,5 @@
+pub mod CountLaws
+pub mod LineLaws
+pub mod LoopLaws
+pub mod ListLaws
+pub mod TestedLaws

@@ -1,0 +1,32 @@
+-- The examples of specs/Worked.antt, computed. Assumes nothing.
+use mathlib.Core.Path.{refl}
+use Rattle.laws.specs.Each.{each, some}
+use Rattle.laws.specs.Refusal.{refusal}
+use Rattle.list_rules.specs.Frequencies.{entriesFault, sumFault}
+use Rattle.journal_rules.specs.Lines.{afterLines, changesOf}
+use Rattle.journal_rules.specs.Replaying.{linesFault, outsideFault, breaks, boundFault, replayed, replayReply}
+use Rattle.journal_rules.specs.Worked.{Worked}
+
+pub worked : Worked
+unfolding each some refusal entriesFault sumFault afterLines changesOf linesFault outsideFault breaks boundFault replayed replayReply
+worked =
+    record {
+      replays = refl;
+      answers = refl;
+      changes = refl;
+      below-first = refl;
+      below-last = refl;
+      to-zero = refl;
+      below-zero = refl;
+      to-limit = refl;
+      past-limit = refl;
+      past-and-back = refl;
+      moved-over = refl;
+      least-change = refl;
+      largest-change = refl;
+      unchanged = refl;
+      lengths = refl;
+      outside = refl;
+      order = refl;
+      no-lines = refl;
+    }

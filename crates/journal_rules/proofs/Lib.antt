@@ -1,0 +1,6 @@
+pub mod Computed
+pub mod SignedLaws
+pub mod LinesLaws
+pub mod ReplayLaws
+pub mod BoundLaws
+pub mod Proved

@@ -1,0 +1,4 @@
+pub mod Lines
+pub mod Replaying
+pub mod Claims
+pub mod Worked
