@@ -114,6 +114,21 @@ pub unsafe extern "C" fn qh_estimate_search(
 }
 
 /// # Safety
+/// As above.
+#[no_mangle]
+pub unsafe extern "C" fn qh_replay_journal(
+    frequencies: *mut u32,
+    length: usize,
+    entries: *const u32,
+    entries_length: usize,
+    changes: *const i32,
+    changes_length: usize,
+) -> QhReplayed {
+    let (entries, changes) = (from_raw_parts(entries, entries_length), from_raw_parts(changes, changes_length));
+    REFERENCE.replay_journal(from_raw_parts_mut(frequencies, length), entries, changes)
+}
+
+/// # Safety
 /// As above, with exactly `SHEET_BYTES` bytes lent.
 #[no_mangle]
 pub unsafe extern "C" fn qh_sheet(input: *const u8, length: usize, lent: *mut u8) -> usize {

@@ -56,6 +56,14 @@ extern "C" {
         lent_length: usize,
     ) -> QhAnswered;
     fn qh_estimate_search(words: *const u32, length: usize, ranges: *const u32, ranges_length: usize) -> QhEstimate;
+    fn qh_replay_journal(
+        frequencies: *mut u32,
+        length: usize,
+        entries: *const u32,
+        entries_length: usize,
+        changes: *const i32,
+        changes_length: usize,
+    ) -> QhReplayed;
     fn qh_sheet(input: *const u8, length: usize, lent: *mut u8) -> usize;
 }
 
@@ -111,6 +119,11 @@ impl Program for Linked<'_> {
 
     fn estimate_search(&self, words: &[u32], ranges: &[u32]) -> QhEstimate {
         unsafe { qh_estimate_search(words.as_ptr(), words.len(), ranges.as_ptr(), ranges.len()) }
+    }
+
+    fn replay_journal(&self, frequencies: &mut [u32], entries: &[u32], changes: &[i32]) -> QhReplayed {
+        let (list, length) = (frequencies.as_mut_ptr(), frequencies.len());
+        unsafe { qh_replay_journal(list, length, entries.as_ptr(), entries.len(), changes.as_ptr(), changes.len()) }
     }
 
     fn sheet(&self, input: &[u8], lent: &mut Sheet) -> usize {

@@ -57,13 +57,19 @@ pub fn running_sums(numbers: impl Iterator<Item = u64>) -> Vec<u64> {
     sums
 }
 
-/// Refusals 1 and 3; a frequency of 0 is none.
-pub fn list_fault(frequencies: &[u32]) -> Result<(), u32> {
+/// The sum of a list; refusals 1 and 3. A frequency of 0 is none.
+pub fn list_sum(frequencies: &[u32]) -> Result<u64, u32> {
     if frequencies.is_empty() || frequencies.len() > MOST_ENTRIES {
         return Err(1);
     }
-    if count(frequencies) > u64::from(COUNT_LIMIT) {
+    let sum = count(frequencies);
+    if sum > u64::from(COUNT_LIMIT) {
         return Err(3);
     }
-    Ok(())
+    Ok(sum)
+}
+
+/// Refusals 1 and 3 by themselves.
+pub fn list_fault(frequencies: &[u32]) -> Result<(), u32> {
+    list_sum(frequencies).map(|_| ())
 }

@@ -5,6 +5,7 @@ use crate::check::{check, Verdict};
 use crate::coding;
 use crate::estimate::estimate;
 use crate::fits::Sort;
+use crate::journal::{self, replay_journal};
 use crate::list::Bound;
 use crate::search::estimate_search;
 use crate::sheet::printed;
@@ -67,6 +68,14 @@ pub struct QhAnswered {
     pub answers: usize,
 }
 
+/// The sum of the list afterwards.
+#[repr(C)]
+#[derive(Clone, Copy, Debug, Default, PartialEq, Eq)]
+pub struct QhReplayed {
+    pub refusal: u32,
+    pub sum: u32,
+}
+
 /// How many bytes are lent for what the listing program prints.
 pub const SHEET_BYTES: usize = 163_840;
 
@@ -91,6 +100,7 @@ pub trait Program {
     fn fill_totals(&self, words: &[u32], lent: &mut [u64]) -> QhFilled;
     fn answer_worksheet(&self, words: &[u32], totals: &[u64], worksheet: &[u32], lent: &mut [u64]) -> QhAnswered;
     fn estimate_search(&self, words: &[u32], ranges: &[u32]) -> QhEstimate;
+    fn replay_journal(&self, frequencies: &mut [u32], entries: &[u32], changes: &[i32]) -> QhReplayed;
     fn sheet(&self, input: &[u8], lent: &mut Sheet) -> usize;
 
     /// The listing program run on an input. It prints the bytes of a sheet, and explains a refusal.
@@ -122,6 +132,7 @@ from_answer! {
     QhFound: at usize,
     QhFilled: places usize,
     QhAnswered: answers usize,
+    QhReplayed: sum u32,
 }
 
 impl From<Result<Verdict, u32>> for QhVerdict {
@@ -199,6 +210,10 @@ impl Program for Reference {
 
     fn estimate_search(&self, words: &[u32], ranges: &[u32]) -> QhEstimate {
         estimate_search(words, ranges).into()
+    }
+
+    fn replay_journal(&self, frequencies: &mut [u32], entries: &[u32], changes: &[i32]) -> QhReplayed {
+        replay_journal(journal::Way::Incremental, frequencies, entries, changes).into()
     }
 
     fn sheet(&self, input: &[u8], lent: &mut Sheet) -> usize {

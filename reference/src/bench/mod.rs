@@ -1,8 +1,9 @@
 //! The benchmark: times of the proved calls beside the same algorithms in Rust, of searches and worksheets beside
-//! single calls, and what the histograms are worth beside others of the same size. It measures and fails by no time;
-//! that the sides answer alike is asserted.
+//! single calls, of journals, and what the histograms are worth beside others of the same size. It measures and fails
+//! by no time; that the sides answer alike is asserted.
 
 mod clock;
+mod journals;
 mod lists;
 pub mod peer;
 mod quality;
@@ -21,6 +22,8 @@ pub fn run(proved: &impl Program, real: Vec<List>) {
     times::print(proved, &lists);
     println!();
     worksheets::print(proved, &lists);
+    println!();
+    journals::print(proved);
     println!();
     quality::print(proved, &lists);
 }

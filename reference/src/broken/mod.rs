@@ -2,12 +2,14 @@
 //! each of them. `FittedByExactAverage`, `WidthByHalving`, `WiderQ` and `EachCutRounded` are document
 //! 01's missteps; those about a zero, about 0 and about the 1 are missteps of request (iv), those
 //! about eight and nine, each of them in one call at a time, of request (v), those about running totals,
-//! places, answers and worksheets of request (i), and those about searches, their number of ranges and
-//! their order of request (ii). Histograms whose classes or totals are others within q are accepted, but
-//! do not keep to request (vi), nor does an estimate by classes that are too low.
+//! places, answers and worksheets of request (i), those about searches, their number of ranges and
+//! their order of request (ii), and those about journals, their lines and bounds of request (vii).
+//! Histograms whose classes or totals are others within q are accepted, but do not keep to request (vi),
+//! nor does an estimate by classes that are too low.
 
 mod asking;
 mod building;
+mod journals;
 mod listing;
 mod searches;
 mod slips;
@@ -129,7 +131,48 @@ faults! {
     One1ForAllRanges: "search",
     TouchingRangesJoined: "search",
     GapsCountedIn: "search",
-    SumIn32Bits: "search",
+    SumIn32Bits: "search" | "replay",
+    JournalsRefused: "replay",
+    ListNotWritten: "replay",
+    ChangesUnsigned: "replay",
+    LinesBackwards: "replay",
+    LastLineLeftOut: "replay",
+    OnlyFirstLineOfAnEntry: "replay",
+    SumTestedAtTheEnd: "replay",
+    FrequenciesTestedAtTheEnd: "replay",
+    BoundsTestedAtTheEnd: "replay",
+    FrequenciesStopAt0: "replay",
+    BelowZeroTaken: "replay",
+    ZeroTakenForBelow: "replay",
+    LimitOneTooLow: "replay",
+    LimitOneTooHigh: "replay",
+    AboveTheLimitRefusedWith3: "replay",
+    SumOfTheListNotTested: "replay",
+    ZeroFrequencyRefusedByReplay: "replay",
+    LongListsTaken: "replay",
+    MostLinesRefused: "replay",
+    OneLineTooManyTaken: "replay",
+    LinesIn16Bits: "replay",
+    EmptyJournalRefused: "replay",
+    UnequalTakenByTheShorter: "replay",
+    ChangesLeftOverTaken: "replay",
+    EntryAtTheLengthTaken: "replay",
+    LastEntryRefused: "replay",
+    LastEntryNotTested: "replay",
+    EntriesIn16Bits: "replay",
+    OutsideRefusedWith15: "replay",
+    NumberBefore1: "replay",
+    NumberBefore3: "replay",
+    EntriesBefore25: "replay",
+    BoundsBefore25: "replay",
+    BoundsBefore26: "replay",
+    FirstFaultyLineNamed: "replay",
+    LinesBefore26Kept: "replay",
+    LinesBefore27Kept: "replay",
+    OldSumAnswered: "replay",
+    MoveOfTheSumAnswered: "replay",
+    LinesAnswered: "replay",
+    SumBesideRefusal: "replay",
     EightRefused: "build" | "check" | "estimate" | "find" | "fill" | "answer" | "search" | "sheet",
     NineTaken: "build" | "check" | "estimate" | "find" | "fill" | "answer" | "search" | "sheet",
     AboveEightTaken: "build" | "check" | "estimate" | "find" | "fill" | "answer" | "search" | "sheet",
@@ -246,6 +289,13 @@ impl Program for Broken {
         match self.call {
             "search" => self.searched(words, ranges).into(),
             _ => RIGHT.estimate_search(words, ranges),
+        }
+    }
+
+    fn replay_journal(&self, frequencies: &mut [u32], entries: &[u32], changes: &[i32]) -> QhReplayed {
+        match self.call {
+            "replay" => self.replayed(frequencies, entries, changes),
+            _ => RIGHT.replay_journal(frequencies, entries, changes),
         }
     }
 

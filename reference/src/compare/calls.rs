@@ -2,8 +2,10 @@
 
 use super::{Comparison, Group};
 use crate::build::{histogram, Way};
+use crate::generate::journals::Journal;
 use crate::generate::searches::Search;
 use crate::generate::worksheets::Worksheet;
+use crate::journal::{replay_journal, WAYS};
 use crate::list::Bound;
 use crate::program::*;
 use crate::words::{write, HEADS, PER_BUCKET};
@@ -14,6 +16,9 @@ const REFERENCE: Reference = Reference(Way::FewerRanges);
 
 /// How much lies beyond a lent list in memory, for no call to touch.
 const BEYOND: u32 = 8;
+
+/// The most entries times lines of a journal that is replayed straight from the rule too.
+const MOST_LOOKED_AT: usize = 2_000;
 
 /// How many letters of an input or an answer are shown.
 const LETTERS: usize = 500;
@@ -40,6 +45,11 @@ pub(super) fn shown<T: PartialEq + Display>(list: &[T]) -> String {
         })
         .collect();
     shortened(format!("[{}]", runs.join(" ")))
+}
+
+pub(super) fn shown_journal(journal: &Journal) -> String {
+    let Journal { frequencies, entries, changes } = journal;
+    format!("{} to {} of {}", shown(changes), shown(entries), shown(frequencies))
 }
 
 fn hexadecimal(words: &[u32]) -> String {
@@ -227,6 +237,41 @@ impl Comparison<'_> {
             sum.estimate += estimate;
         }
         sum
+    }
+
+    /// Compares what a journal makes of the list that is lent, and whether its own lists stay as they were; then tests
+    /// what the other program made of it.
+    pub(super) fn replay(&mut self, group: Group, journal: &Journal) {
+        let Journal { frequencies, entries, changes } = journal;
+        let length = frequencies.len();
+        let call = |program: &dyn Program, list: &mut [u32]| {
+            let (own_entries, own_changes) = (entries.clone(), changes.clone());
+            let answer = program.replay_journal(&mut list[..length], &own_entries, &own_changes);
+            (answer, own_entries == *entries, own_changes == *changes)
+        };
+        let input = || shown_journal(journal);
+        let contents = [&frequencies[..], &lent_words(0)].concat();
+        let [((expected, ..), _), ((got, ..), others)] = self.lent(group, REFERENCE, contents, call, input);
+        self.counts.journals += 1;
+        self.met(group, expected.refusal);
+        if expected.refusal == 0 {
+            self.counts.replayed += 1;
+            self.counts.lines += entries.len() as u64;
+        }
+        if length * entries.len() <= MOST_LOOKED_AT {
+            self.replay_ways_agree(journal);
+        }
+        if got.refusal == 0 {
+            self.moved(journal, got, &others[..length]);
+        }
+    }
+
+    fn replay_ways_agree(&mut self, journal: &Journal) {
+        let all = WAYS.map(|way| {
+            let mut list = journal.frequencies.clone();
+            (replay_journal(way, &mut list, &journal.entries, &journal.changes), list)
+        });
+        self.note(Group::ReplayWays, (all[0] != all[1]).then(|| shown_journal(journal)));
     }
 
     pub(super) fn sheet(&mut self, group: Group, input: &[u8]) {

@@ -4,6 +4,7 @@ mod calls;
 mod coding;
 mod directed;
 mod factors;
+mod journals;
 mod large;
 mod searches;
 mod sharper;
@@ -14,10 +15,12 @@ mod worksheets;
 mod zeros;
 
 use crate::demand::KS;
+use crate::generate::journals::FAULTS;
 use crate::generate::slips::LAST_QD;
 use crate::generate::Random;
 use crate::program::Program;
 use factors::{no_largests, Largests};
+use journals::Outcomes;
 use sharper::{Mosts, Own};
 use std::io::Write;
 use std::rc::Rc;
@@ -118,6 +121,21 @@ groups! {
     SearchOrder: "search: ranges out of order",
     SearchTwoFaults: "search: two faults at once",
     SearchSlips: "search: q about 8",
+    ReplayWays: "replay: the reference's ways agree",
+    ReplayGood: "replay: good journals, and up to either bound",
+    ReplayBeside: "replay: other lists than the one made for",
+    ReplayLarge: "replay: large lists and long journals",
+    ReplayReal: "replay: real lists",
+    ReplayFew: "replay: all of a few lines",
+    ReplayExtreme: "replay: all of a few lines with extreme changes",
+    ReplayRandom: "replay: random journals",
+    ReplayLists: "replay: no entry, too many, and too large a sum",
+    ReplayNumber: "replay: too many lines, and lists of unequal length",
+    ReplayOutside: "replay: entries outside",
+    ReplayBelow: "replay: a frequency below 0",
+    ReplayAbove: "replay: the sum above its limit",
+    ReplayTwoFaults: "replay: two faults at once",
+    ReplayMoved: "replay: what each frequency and the sum moved by",
     SheetGood: "sheet: good input",
     SheetDamaged: "sheet: damaged input",
     SheetSlips: "sheet: q about 8",
@@ -171,6 +189,14 @@ pub struct Volume {
     pub sheets: usize,
     /// The last qd beside which each q about 8 is tried.
     pub last_qd: u32,
+    /// The most lines of the journals that are all tried.
+    pub lines: u32,
+    /// One in so many faults of a sort is put beside one in so many of another, on one in so many lists.
+    pub one_in: usize,
+    /// How many sorts of faults are put beside each other; the last take long.
+    pub sorts: usize,
+    /// How often at least each group of journals is to meet each of its outcomes.
+    pub outcomes: u64,
 }
 
 impl Volume {
@@ -186,6 +212,10 @@ impl Volume {
         ks_of_several: KS.len(),
         sheets: 3_000,
         last_qd: LAST_QD,
+        lines: 3,
+        one_in: 1,
+        sorts: FAULTS.len(),
+        outcomes: 10,
     };
 
     /// Enough to find the known faults in a test.
@@ -201,6 +231,10 @@ impl Volume {
         ks_of_several: 1,
         sheets: 120,
         last_qd: 4,
+        lines: 2,
+        one_in: 3,
+        sorts: FAULTS.len() - 2,
+        outcomes: 2,
     };
 }
 
@@ -217,6 +251,9 @@ struct Counts {
     answers: u64,
     searches: u64,
     summed: u64,
+    journals: u64,
+    replayed: u64,
+    lines: u64,
     ranges: u64,
     sums: u64,
     mismatches: u64,
@@ -238,6 +275,7 @@ pub struct Comparison<'a> {
     /// The builder's histogram that is in hand, once there is one.
     own: Option<Rc<Own>>,
     most: Mosts,
+    outcomes: Outcomes,
     tallies: Vec<Tally>,
     /// What the bytes lent for a sheet hold before the call.
     sheet_contents: Vec<u8>,
@@ -264,6 +302,7 @@ impl<'a> Comparison<'a> {
             largest: no_largests(),
             own: None,
             most: Mosts::default(),
+            outcomes: Outcomes::default(),
             tallies: vec![Tally::default(); GROUPS.len()],
             sheet_contents: calls::sheet_contents(),
             out,
@@ -287,9 +326,16 @@ impl<'a> Comparison<'a> {
         self.part("the sharper rule", Comparison::lists_near_the_sharper_rule);
         self.part("worksheets", Comparison::worksheets);
         self.part("searches", Comparison::searches);
+        self.part("journals", Comparison::journals);
         self.part("sheets", Comparison::sheets);
         self.show_largest();
         self.show_most();
+        self.report()
+    }
+
+    /// Only the part that replays journals, which no other part does. The groups of the others do not run.
+    pub fn run_journals(&mut self) -> bool {
+        self.part("journals", Comparison::journals);
         self.report()
     }
 
@@ -349,10 +395,12 @@ impl<'a> Comparison<'a> {
         let Counts { lists, built, foreign, damaged, random, .. } = self.counts;
         let Counts { accepted, estimates, ranges, sums, mismatches, .. } = self.counts;
         let Counts { worksheets, answers, searches, summed, .. } = self.counts;
+        let Counts { journals, replayed, lines, .. } = self.counts;
         self.show(&format!("{lists} lists"));
         self.show(&format!("histograms: {built} built, {foreign} foreign, {damaged} damaged, {random} random"));
         self.show(&format!("{estimates} estimates, {accepted} accepted pairs with {ranges} ranges and {sums} sums"));
         self.show(&format!("{worksheets} worksheets with {answers} answers, {searches} searches with {summed} summed"));
+        self.show(&format!("{journals} journals, {replayed} of them replayed, with {lines} lines"));
         self.show(&format!("{mismatches} mismatches, seed {}", self.seed));
     }
 }

@@ -4,6 +4,7 @@ use super::Group::*;
 use super::{Asking, Comparison, Group};
 use crate::coding::code_for;
 use crate::generate::directed::bucket;
+use crate::generate::every_list;
 use crate::generate::ranges::all_ranges;
 use crate::list::{count, Bound, COUNT_LIMIT, MOST_THETA};
 use crate::words::{write, Histogram};
@@ -36,9 +37,8 @@ pub(super) const BOUNDS: [Bound; 3] = [Bound::new(1, 3, 2), Bound::new(6, 5, 4),
 
 /// Every list of so many entries.
 pub(super) fn short_lists(length: u32) -> impl Iterator<Item = Vec<u32>> {
-    let kinds = FREQUENCIES.len();
-    let frequency = move |number: usize, place: u32| FREQUENCIES[number / kinds.pow(place) % kinds];
-    (0..kinds.pow(length)).map(move |number| (0..length).map(|place| frequency(number, place)).collect())
+    let frequencies = |list: Vec<usize>| list.into_iter().map(|kind| FREQUENCIES[kind]).collect();
+    every_list(FREQUENCIES.len(), length).map(frequencies)
 }
 
 fn one_bucket(bucketlets: &[(u32, u32)], code: u32, bound: Bound) -> Vec<u32> {

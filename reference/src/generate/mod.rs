@@ -4,12 +4,26 @@ pub mod bytes;
 pub mod damage;
 pub mod directed;
 pub mod foreign;
+pub mod journals;
 pub mod lists;
 pub mod ranges;
 pub mod searches;
 pub mod sharper;
 pub mod slips;
 pub mod worksheets;
+
+/// Every list of so many numbers below `kinds`.
+pub fn every_list(kinds: usize, length: u32) -> impl Iterator<Item = Vec<usize>> {
+    (0..kinds.pow(length)).map(move |number| (0..length).map(|place| number / kinds.pow(place) % kinds).collect())
+}
+
+/// The first, a middle and the last of so many places.
+fn some_places(number: usize) -> Vec<usize> {
+    let mut places = vec![0, number / 2, number.saturating_sub(1)];
+    places.dedup();
+    places.truncate(number);
+    places
+}
 
 /// Splitmix64: the same seed gives the same numbers everywhere.
 #[derive(Clone, Debug)]

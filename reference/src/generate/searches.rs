@@ -2,7 +2,7 @@
 
 use super::damage::faulty_words;
 use super::ranges::{ranges_about_edges, ranges_outside};
-use super::Random;
+use super::{every_list, some_places, Random};
 use crate::search::MOST_RANGES;
 use crate::words::Histogram;
 use crate::worksheet::pairs;
@@ -45,12 +45,8 @@ pub fn ranges_in_order(random: &mut Random, histogram: &Histogram, number: usize
 
 /// Every list of up to so many words that are at most one above d.
 pub fn every_few_words(d: u32, most: u32) -> impl Iterator<Item = Vec<u32>> {
-    let words = d as usize + 2;
-    let word = move |number: usize, place: u32| (number / words.pow(place) % words) as u32;
-    let of_length = move |length: u32| {
-        (0..words.pow(length)).map(move |number| (0..length).map(|place| word(number, place)).collect())
-    };
-    (0..=most).flat_map(of_length)
+    let lists = (0..=most).flat_map(move |length| every_list(d as usize + 2, length));
+    lists.map(|list| list.into_iter().map(|word| word as u32).collect())
 }
 
 /// One search that is taken, and one for each refusal that comes after those of words; 14 has 22 beside it.
@@ -60,14 +56,6 @@ pub fn one_of_each(d: u32) -> [Vec<u32>; 4] {
 
 fn flat(ranges: impl IntoIterator<Item = (u32, u32)>) -> Vec<u32> {
     ranges.into_iter().flat_map(|(x, y)| [x, y]).collect()
-}
-
-/// The first, a middle and the last of so many places.
-fn some_places(number: usize) -> Vec<usize> {
-    let mut places = vec![0, number / 2, number.saturating_sub(1)];
-    places.dedup();
-    places.truncate(number);
-    places
 }
 
 impl Search {

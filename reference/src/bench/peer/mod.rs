@@ -6,6 +6,7 @@ mod building;
 mod checking;
 mod coding;
 mod reading;
+mod replaying;
 
 use crate::build::Way;
 use crate::list::Bound;
@@ -77,6 +78,10 @@ impl Program for Peer {
 
     fn answer_worksheet(&self, words: &[u32], totals: &[u64], worksheet: &[u32], lent: &mut [u64]) -> QhAnswered {
         asking::answer_worksheet(words, totals, worksheet, lent).into()
+    }
+
+    fn replay_journal(&self, frequencies: &mut [u32], entries: &[u32], changes: &[i32]) -> QhReplayed {
+        replaying::replay_journal(frequencies, entries, changes).into()
     }
 
     fn sheet(&self, input: &[u8], lent: &mut Sheet) -> usize {
