@@ -1,5 +1,5 @@
 /* Builds the histogram of a list of four entries, checks it, estimates three ranges, one by one and as a worksheet, and
- * a search of two, and finds a bucket. */
+ * a search of two, finds a bucket, and replays a journal over the list. */
 #include <inttypes.h>
 #include <qh.h>
 #include <stdio.h>
@@ -14,9 +14,11 @@ static int refused(const char *call, uint32_t refusal) {
 }
 
 int main(void) {
-    const uint32_t freqs[ENTRIES] = {10, 10, 10, 10};
+    uint32_t freqs[ENTRIES] = {10, 10, 10, 10};
     const uint32_t ranges[] = {1, 3, 0, 3, 0, 4}; /* two numbers each */
     const uint32_t forms[] = {0, 1, 2, 4};        /* in order and apart */
+    const uint32_t entries[] = {3, 0};            /* of the lines of a journal, with their changes */
+    const int32_t changes[] = {-10, 4};
     uint32_t words[QH_WORDS_FOR(ENTRIES)];
     uint64_t totals[QH_TOTALS_FOR(ENTRIES)], answers[3];
 
@@ -61,5 +63,15 @@ int main(void) {
         return 1;
     }
     printf("the bucket of entry 3 begins with word %zu, %" PRIX32 "\n", found.at, words[found.at]);
+
+    QhReplayed replayed = qh_replay_journal(freqs, ENTRIES, entries, 2, changes, 2);
+    if (refused("qh_replay_journal", replayed.refusal)) {
+        return 1;
+    }
+    printf("after the journal:");
+    for (int i = 0; i < ENTRIES; i++) {
+        printf(" %" PRIu32, freqs[i]);
+    }
+    printf(", together %" PRIu32 "\n", replayed.sum);
     return 0;
 }

@@ -311,6 +311,121 @@ static void buckets(void) {
     found_changed("class 63", 5, 0xBF3C4140, QH_REFUSED_CODE);
 }
 
+static uint32_t list[QH_MAX_ENTRIES + 2];
+
+/* Replays a journal over a copy of freqs, and compares with after, or with freqs where that is NULL, the first word of
+ * the copy and of what is marked after it that is not as expected, or else the last. */
+static void replayed(const char *what, const uint32_t *freqs, size_t freqs_len, const uint32_t *entries,
+                     size_t entries_len, const int32_t *changes, size_t changes_len, QhReplayed expected,
+                     const uint32_t *after) {
+    const uint32_t *words = after == NULL ? freqs : after;
+    size_t at = 0;
+    memset(list, MARK, sizeof list);
+    memcpy(list, freqs, freqs_len * sizeof *freqs);
+    QhReplayed got = qh_replay_journal(list, freqs_len, entries, entries_len, changes, changes_len);
+    figure(what, "refusal", expected.refusal, got.refusal);
+    figure(what, "sum", expected.sum, got.sum);
+    while (at < sizeof list / sizeof *list - 1 && list[at] == (at < freqs_len ? words[at] : MARKED_WORD)) {
+        at++;
+    }
+    figure_at(what, "word", at, at < freqs_len ? words[at] : MARKED_WORD, list[at]);
+}
+
+/* A journal of one line. */
+static void replayed_line(const char *what, const uint32_t *freqs, size_t freqs_len, uint32_t entry, int32_t change,
+                          QhReplayed expected, const uint32_t *after) {
+    replayed(what, freqs, freqs_len, &entry, 1, &change, 1, expected, after);
+}
+
+static const QhReplayed journal_length = {.refusal = QH_REFUSED_JOURNAL_LENGTH};
+static const QhReplayed journal_entry = {.refusal = QH_REFUSED_JOURNAL_ENTRY};
+static const QhReplayed journal_change = {.refusal = QH_REFUSED_JOURNAL_CHANGE};
+
+/* Frequencies and lines of journals. */
+static const uint32_t none[] = {0}, one[] = {1}, five_seven[] = {5, 7};
+static const uint32_t both_first[] = {0, 0}, first_second[] = {0, 1}, second_first[] = {1, 0};
+
+/* The examples of journal_rules/specs/Worked.antt by their names there; the others by hand. */
+static void journals(void) {
+    const uint32_t books[] = {5, 0, 7}, lines[] = {1, 0, 1, 2}, left[] = {3, 7, 0};
+    const uint32_t last_first[] = {3, 0}, tens_after[] = {14, 10, 10, 0};
+    const int32_t of_lines[] = {3, -2, 4, -7}, of_last_first[] = {-10, 4}, down_up[] = {-5, 5}, up_down[] = {5, -5};
+    replayed("replays", LIST(books), LIST(lines), LIST(of_lines), (QhReplayed){.sum = 10}, left);
+    replayed("four tens", LIST(four_tens), LIST(last_first), LIST(of_last_first), (QhReplayed){.sum = 34}, tens_after);
+    replayed("no-lines", LIST(five_seven), lines, 0, of_lines, 0, (QhReplayed){.sum = 12}, NULL);
+    replayed_line("a change of 0", LIST(five_seven), 1, 0, (QhReplayed){.sum = 12}, NULL);
+    replayed("below-first", LIST(none), LIST(both_first), LIST(down_up), journal_change, NULL);
+    replayed("below-last", LIST(none), LIST(both_first), LIST(up_down), (QhReplayed){.sum = 0}, NULL);
+}
+
+/* Down to 0 and up to the limit, and past both. */
+static void journal_bounds(void) {
+    const uint32_t five_nine[] = {5, 9}, full[] = {1073741823, 0}, nearly[] = {1073741822, 0};
+    const uint32_t with_one[] = {1073741822, 1};
+    const int32_t last_below[] = {1, -8}, last_least[] = {1, INT32_MIN}, over_back[] = {1, -1}, back_over[] = {-1, 1};
+    const int32_t all_and_back[] = {1073741823, -1073741823};
+    replayed_line("to-zero", five_seven, 1, 0, -5, (QhReplayed){.sum = 0}, none);
+    replayed_line("below-zero", LIST(five_nine), 0, -6, journal_change, NULL);
+    replayed("unchanged", LIST(five_seven), LIST(first_second), LIST(last_below), journal_change, NULL);
+    replayed_line("to-limit", LIST(nearly), 1, 1, (QhReplayed){.sum = 1073741823}, with_one);
+    replayed_line("past-limit", LIST(nearly), 1, 2, journal_change, NULL);
+    replayed("past-and-back", LIST(full), LIST(second_first), LIST(over_back), journal_change, NULL);
+    replayed("moved-over", LIST(full), LIST(first_second), LIST(back_over), (QhReplayed){.sum = 1073741823}, with_one);
+    replayed_line("0 to the limit", LIST(none), 0, 1073741823, (QhReplayed){.sum = 1073741823}, full);
+    replayed_line("the limit to 0", full, 1, 0, -1073741823, (QhReplayed){.sum = 0}, none);
+    replayed("to the limit and back", LIST(none), LIST(both_first), LIST(all_and_back), (QhReplayed){.sum = 0}, NULL);
+    replayed_line("0 past the limit", LIST(none), 0, 1073741824, journal_change, NULL);
+    replayed_line("the limit below 0", LIST(full), 0, -1073741824, journal_change, NULL);
+    replayed_line("least-change of 0", LIST(none), 0, INT32_MIN, journal_change, NULL);
+    replayed_line("least-change of the limit", full, 1, 0, INT32_MIN, journal_change, NULL);
+    replayed("least-change at last", LIST(five_seven), LIST(first_second), LIST(last_least), journal_change, NULL);
+    replayed_line("largest-change", LIST(none), 0, INT32_MAX, journal_change, NULL);
+}
+
+/* The sentences 1, 3, 25, 26 and 27, tested in this order. */
+static void journal_faults(void) {
+    const uint32_t large[] = {1073741823, 0, 1}, beyond[] = {3, 3};
+    const int32_t below[] = {-9, 0};
+    replayed("no entry", one, 0, beyond, 2, below, 1, (QhReplayed){.refusal = QH_REFUSED_LIST_LENGTH}, NULL);
+    replayed("no entry, no line", one, 0, beyond, 0, below, 0, (QhReplayed){.refusal = QH_REFUSED_LIST_LENGTH}, NULL);
+    replayed("a sum of 1,073,741,824", LIST(large), beyond, 2, below, 1, (QhReplayed){.refusal = QH_REFUSED_SUM}, NULL);
+    replayed("two entries, one change", LIST(five_seven), beyond, 2, below, 1, journal_length, NULL);
+    replayed("one entry, two changes", LIST(five_seven), beyond, 1, below, 2, journal_length, NULL);
+    replayed("an entry, no change", LIST(five_seven), beyond, 1, below, 0, journal_length, NULL);
+    replayed("no entry, a change", LIST(five_seven), beyond, 0, below, 1, journal_length, NULL);
+    replayed("below 0 at first, outside at last", LIST(one), LIST(first_second), LIST(below), journal_entry, NULL);
+    replayed("below 0 at first", LIST(one), LIST(both_first), LIST(below), journal_change, NULL);
+    replayed_line("entry 2 of two", LIST(five_seven), 2, 1, journal_entry, NULL);
+    replayed_line("entry 4,294,967,295", LIST(five_seven), UINT32_MAX, 1, journal_entry, NULL);
+}
+
+/* Journals and lists of the greatest length, and of one more. */
+static void long_journals(void) {
+    static uint32_t freqs[QH_MAX_ENTRIES + 1], last_seven[QH_MAX_ENTRIES], entries[QH_MAX_LINES + 1];
+    static int32_t changes[QH_MAX_LINES + 1];
+    const uint32_t counted[] = {QH_MAX_LINES};
+    for (size_t i = 0; i < sizeof changes / sizeof *changes; i++) {
+        changes[i] = 1;
+    }
+    replayed("65,536 lines", LIST(none), entries, QH_MAX_LINES, changes, QH_MAX_LINES,
+             (QhReplayed){.sum = QH_MAX_LINES}, counted);
+    changes[QH_MAX_LINES - 1] = -QH_MAX_LINES;
+    replayed("65,536 lines, below 0 at last", LIST(none), entries, QH_MAX_LINES, changes, QH_MAX_LINES,
+             journal_change, NULL);
+    replayed("65,537 lines", LIST(none), LIST(entries), LIST(changes), journal_length, NULL);
+    replayed("65,537 entries, 65,536 changes", LIST(none), LIST(entries), changes, QH_MAX_LINES, journal_length, NULL);
+    replayed("65,536 entries, 65,537 changes", LIST(none), entries, QH_MAX_LINES, LIST(changes), journal_length, NULL);
+    entries[QH_MAX_LINES - 1] = 1;
+    replayed("65,536 lines, outside at last", LIST(none), entries, QH_MAX_LINES, changes, QH_MAX_LINES,
+             journal_entry, NULL);
+    last_seven[QH_MAX_ENTRIES - 1] = 7;
+    replayed_line("entry 65,535 of 65,536", freqs, QH_MAX_ENTRIES, QH_MAX_ENTRIES - 1, 7,
+                  (QhReplayed){.sum = 7}, last_seven);
+    replayed_line("entry 65,536 of 65,536", freqs, QH_MAX_ENTRIES, QH_MAX_ENTRIES, 7, journal_entry, NULL);
+    replayed_line("65,537 frequencies", LIST(freqs), QH_MAX_ENTRIES, 7,
+                  (QhReplayed){.refusal = QH_REFUSED_LIST_LENGTH}, NULL);
+}
+
 static uint8_t page[QH_SHEET_BYTES];
 
 /* Compares the first byte of the page that is not as expected, or else the last. */
@@ -344,6 +459,10 @@ int main(void) {
     searches();
     worksheets();
     buckets();
+    journals();
+    journal_bounds();
+    journal_faults();
+    long_journals();
     sheets();
     printf("%zu passed, %zu failed\n", passed, failed);
     return failed != 0;

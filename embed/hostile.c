@@ -1,11 +1,12 @@
 /*
  * Calls the library with input that nobody should lend it. Each call must answer, or refuse by a known number with all
  * else 0, and must leave alone what it is not to write. All of it is done in the main thread and in one that has
- * QH_BUILD_STACK bytes of stack, and what calls neither qh_build nor qh_sheet also in one that has QH_OTHER_STACK. The
- * words and bytes that are read have just their length in memory: valgrind sees a step beyond.
+ * QH_BUILD_STACK bytes of stack, and what calls none of qh_build, qh_sheet and qh_replay_journal also in one that has
+ * QH_OTHER_STACK. The words and bytes that are read have just their length in memory: valgrind sees a step beyond.
  *
  * hostile [VOLUME]: the entries of the list that is built, and how many random inputs are tried.
  */
+#define _DEFAULT_SOURCE /* MAP_ANONYMOUS */
 #include <inttypes.h>
 #include <pthread.h>
 #include <qh.h>
@@ -13,6 +14,7 @@
 #include <stdio.h>
 #include <stdlib.h>
 #include <string.h>
+#include <sys/mman.h>
 
 #define GUARD 16 /* elements on each side of a list that is written */
 #define MARK 0xA5
@@ -223,6 +225,93 @@ static void try_sheet(const uint8_t *from, size_t len) {
     free(block);
 }
 
+/* Replays a journal in 64 bits over a list, and says whether it is to be answered. */
+static bool replays(int64_t *list, size_t len, const uint32_t *entries, size_t entries_len, const int32_t *changes,
+                    size_t changes_len) {
+    const int64_t limit = 1073741823;
+    int64_t sum = 0;
+    for (size_t i = 0; i < len; i++) {
+        sum += list[i];
+    }
+    bool taken = len > 0 && len <= QH_MAX_ENTRIES && sum <= limit;
+    taken = taken && entries_len <= QH_MAX_LINES && entries_len == changes_len;
+    for (size_t i = 0; taken && i < entries_len; i++) {
+        taken = entries[i] < len;
+        if (taken) {
+            list[entries[i]] += changes[i];
+            sum += changes[i];
+            taken = list[entries[i]] >= 0 && sum <= limit;
+        }
+    }
+    return taken;
+}
+
+/* Whether a list has these frequencies and this sum. */
+static bool holds(const uint32_t *list, size_t len, const int64_t *expected, uint32_t sum) {
+    int64_t total = 0;
+    bool same = true;
+    for (size_t i = 0; i < len; i++) {
+        same = same && list[i] == expected[i];
+        total += list[i];
+    }
+    return same && total == sum;
+}
+
+/* Replays a journal over a copy of a list between guards. */
+static void try_journal(const uint32_t *list, size_t len, const uint32_t *from, size_t entries_len,
+                        const int32_t *from_changes, size_t changes_len) {
+    size_t size = (len + 2 * GUARD) * sizeof *list;
+    uint32_t *block = lent(size), *out = block + GUARD, *entries = copied(from, entries_len * sizeof *from);
+    int32_t *changes = copied(from_changes, changes_len * sizeof *from_changes);
+    int64_t *expected = lent(len * sizeof *expected);
+    for (size_t i = 0; i < len; i++) {
+        expected[i] = list[i];
+    }
+    bool taken = replays(expected, len, entries, entries_len, changes, changes_len);
+    memset(block, MARK, size);
+    memcpy(out, list, len * sizeof *list);
+    QhReplayed answer = qh_replay_journal(out, len, entries, entries_len, changes, changes_len);
+    bool kept = marked(block, out) && marked(out + len, out + len + GUARD);
+    bool unchanged = answer.sum == 0 && memcmp(out, list, len * sizeof *list) == 0;
+    bool as_said = answer.refusal == 0 ? taken && holds(out, len, expected, answer.sum) : !taken && unchanged;
+    judge("qh_replay_journal", answer.refusal, kept && as_said);
+    free(block);
+    free(entries);
+    free(changes);
+    free(expected);
+}
+
+/* Copies a list to memory of which only the first elements can be written: a call that writes another ends the program.
+ * Memory goes by the page, so that a few after them can be written too. */
+static uint32_t *partly_writable(const uint32_t *from, size_t len, size_t writable) {
+    size_t size = len * sizeof *from;
+    void *list = mmap(NULL, size, PROT_READ | PROT_WRITE, MAP_PRIVATE | MAP_ANONYMOUS, -1, 0);
+    if (list != MAP_FAILED) {
+        memcpy(list, from, size);
+    }
+    if (list == MAP_FAILED || mprotect(list, size, PROT_READ) != 0 ||
+        mprotect(list, writable * sizeof *from, PROT_READ | PROT_WRITE) != 0) {
+        puts("no memory that cannot be written");
+        exit(1);
+    }
+    return list;
+}
+
+static uint32_t *unwritable(const uint32_t *from, size_t len) {
+    return partly_writable(from, len, 0);
+}
+
+/* Replays a journal that is refused by a number, or that has no lines and the number 0, over a list as it is lent. */
+static void try_unchanged(uint32_t *list, size_t len, const uint32_t *entries, size_t entries_len,
+                          const int32_t *changes, size_t changes_len, uint32_t refusal) {
+    uint32_t sum = 0;
+    for (size_t i = 0; refusal == 0 && i < len; i++) {
+        sum += list[i];
+    }
+    QhReplayed answer = qh_replay_journal(list, len, entries, entries_len, changes, changes_len);
+    judge("qh_replay_journal that changes nothing", answer.refusal, answer.refusal == refusal && answer.sum == sum);
+}
+
 static void numbers(void) {
     for (uint32_t bit = 0; bit < 32; bit++) {
         for (uint32_t more = 0; more < 3; more++) {
@@ -235,7 +324,8 @@ static void numbers(void) {
     }
 }
 
-static void empty_list(uint32_t *list, uint64_t *places, uint8_t *bytes) {
+static void empty_list(uint32_t *list, int32_t *changes, uint64_t *places, uint8_t *bytes) {
+    const int32_t change = 1;
     uint8_t *out = lent(QH_SHEET_BYTES);
     QhBuilt built = qh_build(list, 0, 1, 3, 2, list, 0);
     judge("qh_build of no list", built.refusal, built.refusal == QH_REFUSED_LIST_LENGTH && built.words == 0);
@@ -262,6 +352,13 @@ static void empty_list(uint32_t *list, uint64_t *places, uint8_t *bytes) {
     answer = qh_answer_worksheet(words, words_len, totals, filled.places, list, 0, places, 0);
     judge("qh_answer_worksheet of no range", answer.refusal, answer.refusal == 0 && answer.answers == 0);
     free(totals);
+    uint32_t *fixed = unwritable(freqs, volume);
+    try_unchanged(list, 0, list, 0, changes, 0, QH_REFUSED_LIST_LENGTH);
+    try_unchanged(list, 0, freqs, 1, &change, 1, QH_REFUSED_LIST_LENGTH);
+    try_unchanged(fixed, volume, freqs, 1, changes, 0, QH_REFUSED_JOURNAL_LENGTH);
+    try_unchanged(fixed, volume, list, 0, &change, 1, QH_REFUSED_JOURNAL_LENGTH);
+    try_unchanged(fixed, volume, list, 0, changes, 0, 0);
+    munmap(fixed, volume * sizeof *fixed);
     bool is_refused = qh_sheet(bytes, 0, out) == 11 && memcmp(out, "refused 18\n", 11) == 0;
     judge("qh_sheet of no input", QH_REFUSED_INPUT, is_refused);
     free(out);
@@ -269,12 +366,12 @@ static void empty_list(uint32_t *list, uint64_t *places, uint8_t *bytes) {
 
 static void empty_lists(void) {
     void *list = lent(0);
-    empty_list((uint32_t *)list, (uint64_t *)list, (uint8_t *)list);
+    empty_list((uint32_t *)list, (int32_t *)list, (uint64_t *)list, (uint8_t *)list);
     free(list);
 }
 
 static void null_lists(void) {
-    empty_list(NULL, NULL, NULL);
+    empty_list(NULL, NULL, NULL, NULL);
 }
 
 static void ranges(void) {
@@ -380,6 +477,184 @@ static void long_frequencies(void) {
     }
 }
 
+/* Fills in lines that lists of so many large frequencies take, and now and then one with any entry or any change. */
+static void fill_lines(uint32_t *entries, int32_t *changes, size_t lines, size_t len) {
+    for (size_t i = 0; i < lines; i++) {
+        bool any_entry = len == 0 || random_word() % 256 == 0, any_change = random_word() % 256 == 0;
+        entries[i] = any_entry ? random_word() >> random_word() % 32 : random_word() % (uint32_t)len;
+        changes[i] = any_change ? (int32_t)random_word() : (int32_t)(random_word() % 64) - 32;
+    }
+}
+
+static void random_journals(void) {
+    uint32_t entries[64];
+    int32_t changes[64];
+    for (size_t i = 0; i < volume; i++) {
+        size_t len = random_word() % 64, lines = random_word() % 64;
+        uint32_t *list = random_list(len);
+        fill_lines(entries, changes, 64, len);
+        try_journal(list, len, entries, lines, changes, lines); /* mostly 3 */
+        for (size_t j = 0; j < len; j++) {
+            list[j] = 256 + list[j] % 4096;
+        }
+        try_journal(list, len, entries, lines, changes, lines);
+        try_journal(list, len, entries, lines, changes, random_word() % 64);
+        free(list);
+    }
+}
+
+/* Two lines of one or two entries, one of them perhaps outside the list. */
+static void extreme_journals(void) {
+    const int32_t values[] = {INT32_MIN, INT32_MIN + 1, -1073741824, -1073741823, -1, 0,
+                              1, 1073741823, 1073741824, INT32_MAX};
+    const uint32_t frequencies[] = {0, 1, 1073741822, 1073741823, 1073741824, UINT32_MAX};
+    const uint32_t ends[] = {0, 1, 2, UINT32_MAX};
+    const size_t n = sizeof values / sizeof *values;
+    for (size_t i = 0; i < 6 * 4 * n * n; i++) {
+        const uint32_t list[] = {frequencies[i / n / n / 4], 0}, entries[] = {0, ends[i / n / n % 4]};
+        const int32_t changes[] = {values[i / n % n], values[i % n]};
+        try_journal(list, 2, entries, 2, changes, 2);
+    }
+}
+
+static void journals(void) {
+    uint32_t *list = lent(volume * sizeof *list), *entries = lent(volume * sizeof *entries);
+    int32_t *changes = lent(volume * sizeof *changes);
+    for (size_t i = 0; i < volume; i++) {
+        list[i] = 4096;
+        entries[i] = random_word() % (uint32_t)volume;
+        changes[i] = (int32_t)(random_word() % 64) - 32;
+    }
+    for (size_t lines = 0; lines <= volume; lines++) {
+        try_journal(list, volume, entries, lines, changes, lines);
+        try_journal(list, volume, entries, lines, changes, volume - lines);
+        try_journal(list, lines, entries, volume, changes, volume);
+    }
+    for (size_t i = 0; i < 32 * volume; i++) {
+        const uint32_t bit = UINT32_C(1) << i % 32;
+        entries[i / 32] ^= bit;
+        try_journal(list, volume, entries, volume, changes, volume);
+        entries[i / 32] ^= bit;
+        changes[i / 32] ^= (int32_t)bit;
+        try_journal(list, volume, entries, volume, changes, volume);
+        changes[i / 32] ^= (int32_t)bit;
+    }
+    free(list);
+    free(entries);
+    free(changes);
+}
+
+#define LONG_JOURNAL ((size_t)QH_MAX_LINES + 1)
+
+static void long_journals(void) {
+    uint32_t *entries = lent(LONG_JOURNAL * sizeof *entries);
+    int32_t *changes = lent(LONG_JOURNAL * sizeof *changes);
+    for (size_t v = 0; v < sizeof long_values / sizeof *long_values; v++) {
+        uint32_t *list = long_list(long_values[v]);
+        for (size_t i = 0; i < LONG_JOURNAL; i++) {
+            entries[i] = random_word() % QH_MAX_ENTRIES;
+            changes[i] = (int32_t)(random_word() % 8);
+        }
+        for (size_t len = LONG_LEN - 2; len <= LONG_LEN; len++) {
+            for (size_t lines = LONG_JOURNAL - 2; lines <= LONG_JOURNAL; lines++) {
+                try_journal(list, len, entries, lines, changes, lines);
+                try_journal(list, len, entries, lines, changes, LONG_JOURNAL - 1);
+            }
+        }
+        changes[LONG_JOURNAL - 2] = INT32_MIN;
+        try_journal(list, LONG_LEN - 1, entries, LONG_JOURNAL - 1, changes, LONG_JOURNAL - 1);
+        entries[LONG_JOURNAL - 2] = QH_MAX_ENTRIES;
+        try_journal(list, LONG_LEN - 1, entries, LONG_JOURNAL - 1, changes, LONG_JOURNAL - 1);
+        free(list);
+    }
+    free(entries);
+    free(changes);
+}
+
+/* Journals that are refused, some for their last line, and one without lines: nothing is written on the way either. */
+static void unwritable_lists(void) {
+    const uint32_t last = (uint32_t)volume - 1, entries[] = {0, last, 0, 1, last}, beyond[] = {0, last, 0, 1, last + 1};
+    const int32_t changes[] = {5, 3, -5, 2, -3}, below[] = {5, 3, -5, 2, -1000}, above[] = {5, 3, -5, 2, 1073741823};
+    uint32_t *fixed = unwritable(freqs, volume);
+    try_unchanged(fixed, volume, entries, 0, changes, 0, 0);
+    try_unchanged(fixed, volume, entries, 5, changes, 4, QH_REFUSED_JOURNAL_LENGTH);
+    try_unchanged(fixed, volume, entries, 4, changes, 5, QH_REFUSED_JOURNAL_LENGTH);
+    try_unchanged(fixed, volume, beyond, 5, changes, 5, QH_REFUSED_JOURNAL_ENTRY);
+    try_unchanged(fixed, volume, entries, 5, below, 5, QH_REFUSED_JOURNAL_CHANGE);
+    try_unchanged(fixed, volume, entries, 5, above, 5, QH_REFUSED_JOURNAL_CHANGE);
+    munmap(fixed, volume * sizeof *fixed);
+}
+
+/* The same of long lists and journals. With 16,384 each, 65,536 frequencies are one too many for the sum. */
+static void long_unwritable_lists(void) {
+    const size_t len = LONG_LEN - 2, lines = LONG_JOURNAL - 1;
+    uint32_t *list = long_list(16384), *fixed = unwritable(list, LONG_LEN);
+    uint32_t *entries = lent(LONG_JOURNAL * sizeof *entries);
+    int32_t *changes = lent(LONG_JOURNAL * sizeof *changes);
+    for (size_t i = 0; i < LONG_JOURNAL; i++) {
+        entries[i] = random_word() % (uint32_t)len;
+        changes[i] = i % 2 == 0 ? 1 : -1;
+    }
+    try_unchanged(fixed, LONG_LEN, entries, lines, changes, lines, QH_REFUSED_LIST_LENGTH);
+    try_unchanged(fixed, LONG_LEN - 1, entries, lines, changes, lines, QH_REFUSED_SUM);
+    try_unchanged(fixed, len, entries, 0, changes, 0, 0);
+    try_unchanged(fixed, len, entries, LONG_JOURNAL, changes, LONG_JOURNAL, QH_REFUSED_JOURNAL_LENGTH);
+    changes[lines - 1] = INT32_MIN;
+    try_unchanged(fixed, len, entries, lines, changes, lines, QH_REFUSED_JOURNAL_CHANGE);
+    entries[lines - 1] = (uint32_t)len;
+    try_unchanged(fixed, len, entries, lines, changes, lines, QH_REFUSED_JOURNAL_ENTRY);
+    munmap(fixed, LONG_LEN * sizeof *fixed);
+    free(list);
+    free(entries);
+    free(changes);
+}
+
+/* What a length alone refuses: no frequency is read for 1, and no line for 25. A call that reads one ends the program. */
+static void unreadable_lists(void) {
+    const size_t size = LONG_LEN * sizeof(uint32_t);
+    void *hidden = mmap(NULL, size, PROT_NONE, MAP_PRIVATE | MAP_ANONYMOUS, -1, 0);
+    if (hidden == MAP_FAILED) {
+        puts("no memory that cannot be read");
+        exit(1);
+    }
+    uint32_t *entries = hidden;
+    int32_t *changes = hidden;
+    try_unchanged(hidden, 0, entries, 5, changes, 5, QH_REFUSED_LIST_LENGTH);
+    try_unchanged(hidden, LONG_LEN, entries, 5, changes, 4, QH_REFUSED_LIST_LENGTH);
+    try_unchanged(freqs, volume, entries, LONG_JOURNAL, changes, LONG_JOURNAL, QH_REFUSED_JOURNAL_LENGTH);
+    try_unchanged(freqs, volume, entries, LONG_JOURNAL, changes, 1, QH_REFUSED_JOURNAL_LENGTH);
+    try_unchanged(freqs, volume, entries, 5, changes, 4, QH_REFUSED_JOURNAL_LENGTH);
+    try_unchanged(freqs, volume, entries, 4, changes, 5, QH_REFUSED_JOURNAL_LENGTH);
+    munmap(hidden, size);
+}
+
+/* Journals that are answered, one after the other: only the entries that their lines name are written. */
+static void partly_writable_list(void) {
+    const size_t len = LONG_LEN - 1;
+    uint32_t *list = long_list(100), *fixed = partly_writable(list, len, volume);
+    uint32_t *entries = lent(volume * sizeof *entries);
+    int32_t *changes = lent(volume * sizeof *changes);
+    int64_t *expected = lent(len * sizeof *expected);
+    for (size_t i = 0; i < len; i++) {
+        expected[i] = list[i];
+    }
+    for (size_t journal = 0; journal < 8; journal++) {
+        for (size_t i = 0; i < volume; i++) {
+            entries[i] = random_word() % (uint32_t)volume;
+            changes[i] = (int32_t)(random_word() % 8) - 3;
+        }
+        bool taken = replays(expected, len, entries, volume, changes, volume);
+        QhReplayed answer = qh_replay_journal(fixed, len, entries, volume, changes, volume);
+        bool as_said = answer.refusal == 0 && taken && holds(fixed, len, expected, answer.sum);
+        judge("qh_replay_journal where it may write", answer.refusal, as_said);
+    }
+    munmap(fixed, len * sizeof *fixed);
+    free(list);
+    free(entries);
+    free(changes);
+    free(expected);
+}
+
 static void sheets(void) {
     for (size_t len = 0; len <= text_len; len++) {
         try_sheet(text, len);
@@ -413,7 +688,7 @@ static void *run(void *of) {
     const struct {
         const char *name;
         void (*run)(void);
-        bool builds; /* calls qh_build or qh_sheet */
+        bool deep; /* calls qh_build, qh_sheet or qh_replay_journal */
     } groups[] = {
         {"numbers to be coded or read", numbers, false},
         {"empty lists", empty_lists, true},
@@ -427,11 +702,19 @@ static void *run(void *of) {
         {"theta and q", qualities, true},
         {"lists that are too long", long_lists, false},
         {"frequencies up to the longest list and beyond", long_frequencies, true},
+        {"journals of random lines", random_journals, true},
+        {"journals of extreme changes", extreme_journals, true},
+        {"every prefix of a journal, and every bit turned", journals, true},
+        {"journals up to the most lines and beyond", long_journals, true},
+        {"journals over lists that cannot be written", unwritable_lists, true},
+        {"long journals over lists that cannot be written", long_unwritable_lists, true},
+        {"lists and journals that cannot be read", unreadable_lists, true},
+        {"journals over a list of which a part cannot be written", partly_writable_list, true},
         {"every prefix of a sheet's input, and every bit turned", sheets, true},
         {"a sheet of random bytes", random_bytes, true},
     };
     for (size_t i = 0; i < sizeof groups / sizeof *groups; i++) {
-        if (groups[i].builds && thread->stack == QH_OTHER_STACK) {
+        if (groups[i].deep && thread->stack == QH_OTHER_STACK) {
             continue;
         }
         state = i + 1;

@@ -5,7 +5,8 @@
  * An e-book reader carries one ordered list of word forms, each with the number of times it occurs. qh_build makes a
  * small histogram of the list; qh_estimate then says from that alone about how many hits a range of forms has,
  * qh_estimate_search how many several ranges have together, and qh_answer_worksheet how many each of many has. qh_check
- * tells whether a histogram is fit for a list, and qh_find which of its buckets holds an entry.
+ * tells whether a histogram is fit for a list, and qh_find which of its buckets holds an entry. qh_replay_journal
+ * changes the list itself, as books are added and withdrawn.
  *
  * The terms
  *   entry      the place of a word form in the list, 0 to d - 1, where d is the length of the list
@@ -22,6 +23,8 @@
  *              one ahead of it ends. Ranges are lent as two numbers each: the x and the y of the first, those of the
  *              second, and so on.
  *   worksheet  a list of ranges that are each looked up by themselves
+ *   journal    lines, each an entry and a signed change to its frequency, as books are added and withdrawn; lent as two
+ *              lists, the entries of the lines and, in the same order, their changes
  *
  * How close they come
  *   The histograms of qh_build, and all others that qh_check accepts for the list, keep this for every range within
@@ -42,7 +45,8 @@
  *     order given at the call. Where it is not 0, all else in the result is 0 and no lent list has changed. qh_sheet
  *     alone has no such field: it writes the number of its refusal into the sheet.
  *   - Every list is the caller's before, during and after the call: a pointer to the first of so many elements. Only
- *     the list `out` of a call is written, and only as far as its result says.
+ *     the list `out` of a call is written, and only as far as its result says, and of qh_replay_journal the list
+ *     `freqs`, and only at the entries that its lines name.
  *   - Nothing is kept between calls and no memory is allocated, so threads may call at once. Of the C library only
  *     memcpy and memset are used.
  *
@@ -53,8 +57,8 @@
  *
  * Outside the proof
  *   - a null pointer with a length above 0, a pointer that is not aligned for its elements, a length that is not the
- *     list's, an `out` of qh_sheet with fewer bytes than it must have, an `out` that overlaps another list, and a list
- *     that another thread writes during the call: what happens then is not known;
+ *     list's, an `out` of qh_sheet with fewer bytes than it must have, an `out` or a `freqs` of qh_replay_journal that
+ *     overlaps another list, and a list that another thread writes during the call: what happens then is not known;
  *   - a null pointer with length 0. Pass an empty list as length 0 and any pointer that is not null; in the tests a null
  *     pointer gives the same answer;
  *   - whether the structs and calls of this header are those of the library: the order of fields and parameters is
@@ -77,6 +81,9 @@ extern "C" {
 
 /* The largest d: a longer list is refused. */
 #define QH_MAX_ENTRIES 65536
+
+/* The most lines of a journal: a longer one is refused. */
+#define QH_MAX_LINES 65536
 
 /* The most words that the histogram of d entries has: a bucket for each eight entries and one for the rest. */
 #define QH_WORDS_FOR(d) ((size_t)4 + (size_t)5 * (((size_t)(d) + 7) / 8))
@@ -108,7 +115,10 @@ enum {
     QH_REFUSED_WORKSHEET = 21,
     QH_REFUSED_RANGE_COUNT = 22,
     QH_REFUSED_RANGE_ORDER = 23,
-    QH_REFUSED_LARGE_Q = 24
+    QH_REFUSED_LARGE_Q = 24,
+    QH_REFUSED_JOURNAL_LENGTH = 25,
+    QH_REFUSED_JOURNAL_ENTRY = 26,
+    QH_REFUSED_JOURNAL_CHANGE = 27
 };
 
 /* The table of refusals: the sentence of a refusal, NULL for any other number. */
@@ -137,12 +147,16 @@ static inline const char *qh_sentence(uint32_t refusal) {
     case QH_REFUSED_RANGE_COUNT: return "The search has no range, more than sixteen, or a word left over.";
     case QH_REFUSED_RANGE_ORDER: return "A range of the search starts before the one ahead of it ends.";
     case QH_REFUSED_LARGE_Q: return "q is above 8.";
+    case QH_REFUSED_JOURNAL_LENGTH: return "The journal has more than 65,536 lines, or not as many changes as entries.";
+    case QH_REFUSED_JOURNAL_ENTRY: return "A line of the journal has an entry that is not below d.";
+    case QH_REFUSED_JOURNAL_CHANGE: return "After a line of the journal a frequency is below 0, or the frequencies sum to more than 1,073,741,823.";
     default: return NULL;
     }
 }
 
-/* A call of qh_build takes fewer than QH_BUILD_STACK bytes of stack, and so does one of qh_sheet, which builds too; any
- * other call takes fewer than QH_OTHER_STACK. That is tested, not proved. */
+/* A call of qh_build takes fewer than QH_BUILD_STACK bytes of stack, and so does one of qh_sheet, which builds too, and
+ * one of qh_replay_journal, which tries the lines on a copy of the list; any other call takes fewer than QH_OTHER_STACK.
+ * That is tested, not proved. */
 #define QH_BUILD_STACK 524288 /* 512 KiB */
 #define QH_OTHER_STACK 16384  /* 16 KiB */
 
@@ -228,6 +242,21 @@ typedef struct {
 
 /* The bucket of an entry: its five words are words[at] to words[at + 4]. Refused with 7, 24, 8 to 12, then 15. */
 QhFound qh_find(const uint32_t *words, size_t words_len, uint32_t entry);
+
+typedef struct {
+    uint32_t refusal;
+    uint32_t sum; /* of the frequencies in freqs afterwards */
+} QhReplayed;
+
+/* Replays a journal over a list: line by line, in their order, freqs[entries[i]] moves by changes[i]. Afterwards each
+ * frequency is the old one plus the sum of its entry's changes. After no line may a frequency be below 0 or the sum above
+ * 1,073,741,823: a later line makes up for nothing. An entry may have many lines, a change may be 0, and a journal
+ * without lines changes nothing. qh_check tells whether a histogram of the old list is fit for the new one. Refused with
+ * 1, 3, then 25, 26 and 27, each tested over all lines before the next, and 25 by the two lengths alone. Nothing is
+ * written before all lines have passed, so that a refused call has not written on the way either, and then only at the
+ * entries that lines name; that is tested, not proved. */
+QhReplayed qh_replay_journal(uint32_t *freqs, size_t freqs_len, const uint32_t *entries, size_t entries_len,
+                             const int32_t *changes, size_t changes_len);
 
 typedef struct {
     uint32_t refusal;

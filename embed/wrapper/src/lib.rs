@@ -224,6 +224,31 @@ pub fn find(words: &[u32], entry: u32) -> Result<&[u32], Refusal> {
     answer(found.refusal, found.at).map(|at| &words[at..at + 5])
 }
 
+/// Replays the lines of a journal over a list, each an entry and a change to its frequency, and answers the sum of the
+/// list afterwards. Refused, the list is as it was.
+///
+/// ```
+/// use qh::{replay_journal, Refusal};
+/// let mut freqs = [10, 10, 10, 10];
+/// assert_eq!(replay_journal(&mut freqs, &[3, 0], &[-10, 4])?, 34);
+/// assert_eq!(freqs, [14, 10, 10, 0]);
+/// assert_eq!(replay_journal(&mut freqs, &[3, 3], &[5, -5])?, 34);
+/// assert_eq!(replay_journal(&mut freqs, &[], &[])?, 34);
+/// assert_eq!(replay_journal(&mut freqs, &[3, 3], &[-5, 5]), Err(Refusal::JournalChange));
+/// assert_eq!(replay_journal(&mut freqs, &[1, 0], &[1, 1_073_741_790]), Err(Refusal::JournalChange));
+/// assert_eq!(replay_journal(&mut freqs, &[1, 4], &[1, 1]), Err(Refusal::JournalEntry));
+/// assert_eq!(replay_journal(&mut freqs, &[1, 2], &[1]), Err(Refusal::JournalLength));
+/// assert_eq!(freqs, [14, 10, 10, 0]);
+/// assert_eq!(replay_journal(&mut freqs, &[1, 0], &[-1, 1_073_741_790])?, 1_073_741_823);
+/// # Ok::<(), Refusal>(())
+/// ```
+pub fn replay_journal(freqs: &mut [u32], entries: &[u32], changes: &[i32]) -> Result<u32, Refusal> {
+    let (list, list_len) = (freqs.as_mut_ptr(), freqs.len());
+    let replayed =
+        unsafe { qh_replay_journal(list, list_len, entries.as_ptr(), entries.len(), changes.as_ptr(), changes.len()) };
+    answer(replayed.refusal, replayed.sum)
+}
+
 /// The class of a count.
 ///
 /// ```
@@ -290,9 +315,9 @@ mod tests {
     use super::{answer, unknown};
 
     #[test]
-    #[should_panic(expected = "does not know the refusal 25 of the linked libqh.a: the two are of different versions")]
+    #[should_panic(expected = "does not know the refusal 28 of the linked libqh.a: the two are of different versions")]
     fn a_refusal_of_another_version() {
-        let _ = answer(25, ());
+        let _ = answer(28, ());
     }
 
     #[test]

@@ -42,6 +42,12 @@ pub struct QhFound {
 }
 
 #[repr(C)]
+pub struct QhReplayed {
+    pub refusal: u32,
+    pub sum: u32,
+}
+
+#[repr(C)]
 pub struct QhCoded {
     pub refusal: u32,
     pub value: u32,
@@ -77,6 +83,14 @@ extern "C" {
         out_len: usize,
     ) -> QhAnswered;
     pub fn qh_find(words: *const u32, words_len: usize, entry: u32) -> QhFound;
+    pub fn qh_replay_journal(
+        freqs: *mut u32,
+        freqs_len: usize,
+        entries: *const u32,
+        entries_len: usize,
+        changes: *const i32,
+        changes_len: usize,
+    ) -> QhReplayed;
     pub fn qh_class_of(count: u32) -> QhCoded;
     pub fn qh_number_of_class(class: u32) -> QhCoded;
     pub fn qh_code_of_total(total: u32) -> QhCoded;

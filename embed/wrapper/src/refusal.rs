@@ -51,6 +51,9 @@ refusals! {
     RangeCount = 22, "The search has no range, more than sixteen, or a word left over.";
     RangeOrder = 23, "A range of the search starts before the one ahead of it ends.";
     LargeQ = 24, "q is above 8.";
+    JournalLength = 25, "The journal has more than 65,536 lines, or not as many changes as entries.";
+    JournalEntry = 26, "A line of the journal has an entry that is not below d.";
+    JournalChange = 27, "After a line of the journal a frequency is below 0, or the frequencies sum to more than 1,073,741,823.";
 }
 
 impl Refusal {
@@ -68,7 +71,7 @@ impl Refusal {
     /// ```
     /// use qh::Refusal;
     /// assert_eq!(Refusal::from_number(14), Some(Refusal::Range));
-    /// assert_eq!([0, 2, 25].map(Refusal::from_number), [None; 3]);
+    /// assert_eq!([0, 2, 28].map(Refusal::from_number), [None; 3]);
     /// assert!(Refusal::ALL.iter().all(|r| Refusal::from_number(r.number()) == Some(*r)));
     /// ```
     pub fn from_number(number: u32) -> Option<Refusal> {
