@@ -14,6 +14,7 @@ use Rattle.journal_rules.specs.Replaying.{outsideFault, breaks, boundFault, aft
 use Rattle.journal.specs.declared.lines.Changed.{Changed}
 use Rattle.journal.specs.declared.lines.Changed.the-variants.{To, Broken}
 
+-- a whole number as a count, if it is one from 0 up to the limit
 abbrev pub countOf : ℤ → Changed
 countOf (pos n) = cond (leb n limit) (To n) Broken
 countOf (negsuc n) = Broken
