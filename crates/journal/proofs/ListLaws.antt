@@ -9,15 +9,14 @@ use native.Mathlib.Nat.{eq-or-lt-of-le}
 use native.Mathlib.Omega.{arith}
 use borrow.Author.Tests.{eqb-true, eqb-false}
 use lib.Dec.{ltb, eqb}
-use lib.IntN.{ℤ, pos, natAbs}
-use lib.ListN.{length, getD, set, length-set, List·getD-map}
+use lib.IntN.{ℤ}
+use lib.ListN.{length, getD, set, length-set}
 use lib.Seq.{getD-set-same, getD-set-other, ext-getD}
 use Rattle.laws.specs.Each.{some}
 use Rattle.laws.proofs.Tests.{tested}
-use Rattle.journal_rules.specs.Lines.{signed, unsigned, entryAt, afterLines}
+use Rattle.journal_rules.specs.Lines.{entryAt}
 use Rattle.journal_rules.specs.Replaying.{outsideFault, afterAll}
-use Rattle.journal_rules.proofs.SignedLaws.{signed-at, signed-length, unsigned-length}
-use Rattle.journal_rules.proofs.LinesLaws.{after-length, after-other, inside-at}
+use Rattle.journal_rules.proofs.LinesLaws.{inside-at, all-long, all-other}
 use Rattle.journal.specs.Private.Changing.{ElseSame}
 
 module _ (copy es : List ℕ) where
@@ -53,13 +52,9 @@ module _ (copy es : List ℕ) where
 pub but-for-lines : (fs es : List ℕ) (cs : List ℤ) → outsideFault fs es ≡ false → length es ≡ length cs → ElseSame (afterAll fs es cs) es fs 0
 unfolding outsideFault
 but-for-lines fs es cs inside paired =
-    let last = afterLines (signed fs) es cs (length cs) in
-    let long : length (unsigned last) ≡ length fs = unsigned-length last ∙ after-length (signed fs) es cs (length cs) ∙ signed-length fs in
     record {
       within = omega arith;
-      same-length = sym long;
-      inside = ap (λ (n : ℕ). some (length es) (λ i. not (ltb (entryAt es i) n))) long ∙ inside;
-      same = λ e h.
-          ap natAbs (sym (signed-at fs e) ∙ sym (after-other (signed fs) es cs (length cs) e (λ j l. h j (omega arith) (omega arith))))
-          ∙ sym (List·getD-map natAbs last e (pos 0));
+      same-length = sym (all-long fs es cs);
+      inside = ap (λ (n : ℕ). some (length es) (λ i. not (ltb (entryAt es i) n))) (all-long fs es cs) ∙ inside;
+      same = λ e h. sym (all-other fs es cs e (λ j l. h j (omega arith) (omega arith)));
     }

@@ -14,7 +14,7 @@ use Rattle.laws.proofs.Tests.{true-not-false, chosen, not-chosen}
 use Rattle.journal_rules.specs.Lines.{signed, unsigned, entryAt, changeAt, afterLine, afterLines}
 use Rattle.journal_rules.specs.Replaying.{breaks, breaksAfter, boundFault, afterAll}
 use Rattle.journal_rules.proofs.SignedLaws.{signed-length, unsigned-signed}
-use Rattle.journal_rules.proofs.LinesLaws.{after-none, after-next, after-length, kept-signed}
+use Rattle.journal_rules.proofs.LinesLaws.{after-none, after-next, after-long, kept-signed}
 use Rattle.journal.specs.declared.lines.Changed.the-variants.{To, Broken}
 use Rattle.journal.specs.Private.Changing.{lineOf, lineChanged, lineLeft, linesChanged, LinesLeft}
 use Rattle.journal.proofs.LineLaws.{was-kept, was-broken}
@@ -30,7 +30,7 @@ module _ (fs es : List ℕ) (cs : List ℤ) where
   none-replayed s e = record { kept = none-yet (length cs) (breaksAfter fs es cs); so-far = sym (after-none (signed fs) es cs); summed = e }
 
   pub still-long : (now : List ℕ) (s i : ℕ) → SoFar fs es cs now s i → length now ≡ length fs
-  still-long now s i r = sym (signed-length now) ∙ ap length (r .so-far) ∙ after-length (signed fs) es cs i ∙ signed-length fs
+  still-long now s i r = sym (signed-length now) ∙ ap length (r .so-far) ∙ after-long fs es cs i
 
   module _ (now : List ℕ) (s i : ℕ) (r : SoFar fs es cs now s i) (before : i < length cs) where
     -- the list after line i is that of one line more
@@ -58,7 +58,7 @@ module _ (fs es : List ℕ) (cs : List ℤ) where
 
   pub lines-broken : (left : List ℕ) → boundFault fs es cs ≡ true → (Broken ≡ linesChanged fs es cs) × LinesLeft fs es cs left
   unfolding linesChanged
-  lines-broken left t = (chosen (boundFault fs es cs) Broken (To (sum (afterAll fs es cs))) t, record { replayed = λ f. absurd (true-not-false t f) })
+  lines-broken left t = (chosen (boundFault fs es cs) Broken (To (sum (afterAll fs es cs))) t, record { unbroken = λ f. absurd (true-not-false t f) })
 
   pub all-replayed : (now : List ℕ) (s i : ℕ) → SoFar fs es cs now s i → length cs ≤ i → (To s ≡ linesChanged fs es cs) × LinesLeft fs es cs now
   unfolding boundFault linesChanged
@@ -66,4 +66,4 @@ module _ (fs es : List ℕ) (cs : List ℤ) where
       let done : i ≡ length cs = omega (arith, r .kept .within) in
       let now-is : now ≡ afterAll fs es cs = sym (unsigned-signed now) ∙ ap unsigned (r .so-far ∙ ap (afterLines (signed fs) es cs) done) in
       let f = none-found (length cs) (breaksAfter fs es cs) i h (r .kept) in
-      (ap To (r .summed ∙ ap sum now-is) ∙ not-chosen (boundFault fs es cs) Broken (To (sum (afterAll fs es cs))) (sym f), record { replayed = λ _. now-is })
+      (ap To (r .summed ∙ ap sum now-is) ∙ not-chosen (boundFault fs es cs) Broken (To (sum (afterAll fs es cs))) (sym f), record { unbroken = λ _. now-is })

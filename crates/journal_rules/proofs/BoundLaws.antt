@@ -8,7 +8,7 @@ use Prim.Native.Nat.{ℕ, suc, _≤_, _<_}
 use native.Mathlib.Omega.{arith}
 use lib.Dec.{T}
 use lib.IntN.{ℤ, pos, natAbs, _+ℤ_}
-use lib.ListN.{length, getD, take}
+use lib.ListN.{length, getD}
 use lib.Seq.{getD-set-same}
 use lib.Signed.{ltZ, _≤ℤ_, ltZ-yes, ltZ-no, clashℤ}
 use Rattle.laws.specs.Each.{some}
@@ -18,11 +18,11 @@ use Rattle.laws.proofs.SumsLaws.{getD-le-sum}
 use Rattle.laws.proofs.Tests.{is-false, neither, neither-right}
 use Rattle.counts_rules.specs.Limit.{limit}
 use Rattle.list_rules.specs.Frequencies.{listFault}
-use Rattle.journal_rules.specs.Lines.{signed, unsigned, sumℤ, frequencyAt, entryAt, changeAt, afterLines, changesOf}
+use Rattle.journal_rules.specs.Lines.{signed, unsigned, sumℤ, frequencyAt, entryAt, changeAt, afterLines}
 use Rattle.journal_rules.specs.Replaying.{linesFault, outsideFault, belowZero, breaks, breaksAfter, boundFault}
 use Rattle.journal_rules.specs.Claims.{WithinBounds}
-use Rattle.journal_rules.proofs.SignedLaws.{change-within, signed-at, signed-length, signed-sum}
-use Rattle.journal_rules.proofs.LinesLaws.{after-next, after-length, after-at, after-sum, inside-at, none-below, kept-signed, kept-limit}
+use Rattle.journal_rules.proofs.SignedLaws.{change-within, signed-at}
+use Rattle.journal_rules.proofs.LinesLaws.{after-next, inside-at, after-long, after-frequency, after-summed, none-below, kept-signed, kept-limit}
 use Rattle.journal_rules.proofs.ReplayLaws.{kept-after, same-lines}
 
 -- a test that fails, and the order
@@ -36,26 +36,18 @@ module _ (fs es : List ℕ) (cs : List ℤ) (lines : linesFault es cs ≡ false)
   abbrev after : ℕ → List ℤ
   after n = afterLines (signed fs) es cs n
 
-  after-frequency : (n e : ℕ) → e < length fs → frequencyAt (after n) e ≡ pos (getD fs e 0) +ℤ changesOf es cs e n
-  after-frequency n e h = after-at (signed fs) es cs n e (omega (arith, signed-length fs)) ∙ ap (λ (z : ℤ). z +ℤ changesOf es cs e n) (signed-at fs e)
-
-  after-total : (n : ℕ) → n ≤ length cs → sumℤ (after n) ≡ pos (sum fs) +ℤ sumℤ (take n cs)
-  after-total n h =
-      after-sum (signed fs) es cs n (λ i l. omega (arith, signed-length fs, inside-at fs es inside i (omega (arith, same-lines es cs lines))))
-      ∙ ap (λ (z : ℤ). z +ℤ sumℤ (take n cs)) (signed-sum fs)
-
-  after-long : (n : ℕ) → length (after n) ≡ length fs
-  after-long n = after-length (signed fs) es cs n ∙ signed-length fs
+  paired : length es ≡ length cs
+  paired = same-lines es cs lines
 
   pub kept-within : listFault fs ≡ 0 → boundFault fs es cs ≡ false → WithinBounds fs es cs
   unfolding breaks
   kept-within sound kept =
       record {
         frequencies = λ n h e l.
-            subst (λ (z : ℤ). pos 0 ≤ℤ z) (after-frequency n e l)
-            (not-less (frequencyAt (after n) e) (pos 0) (none-below (after n) (kept-after fs es cs sound kept n h) e (omega (arith, after-long n))));
+            subst (λ (z : ℤ). pos 0 ≤ℤ z) (after-frequency fs es cs n e l)
+            (not-less (frequencyAt (after n) e) (pos 0) (none-below (after n) (kept-after fs es cs sound kept n h) e (omega (arith, after-long fs es cs n))));
         sums = λ n h.
-            subst (λ (z : ℤ). z ≤ℤ pos limit) (after-total n h)
+            subst (λ (z : ℤ). z ≤ℤ pos limit) (after-summed fs es cs paired inside n h)
             (not-less (pos limit) (sumℤ (after n)) (neither-right (some (length (after n)) (belowZero (after n))) (ltZ (pos limit) (sumℤ (after n))) (kept-after fs es cs sound kept n h)));
       }
 
@@ -67,8 +59,8 @@ module _ (fs es : List ℕ) (cs : List ℤ) (lines : linesFault es cs ≡ false)
       let n = suc i in
       neither (some (length (after n)) (belowZero (after n))) (ltZ (pos limit) (sumℤ (after n)))
       (some-none (length (after n)) (belowZero (after n))
-      (λ e l. is-not-less (frequencyAt (after n) e) (pos 0) (subst (λ (z : ℤ). pos 0 ≤ℤ z) (sym (after-frequency n e (omega (arith, after-long n)))) (w .frequencies n h e (omega (arith, after-long n))))))
-      (is-not-less (pos limit) (sumℤ (after n)) (subst (λ (z : ℤ). z ≤ℤ pos limit) (sym (after-total n h)) (w .sums n h))))
+      (λ e l. is-not-less (frequencyAt (after n) e) (pos 0) (subst (λ (z : ℤ). pos 0 ≤ℤ z) (sym (after-frequency fs es cs n e (omega (arith, after-long fs es cs n)))) (w .frequencies n h e (omega (arith, after-long fs es cs n))))))
+      (is-not-less (pos limit) (sumℤ (after n)) (subst (λ (z : ℤ). z ≤ℤ pos limit) (sym (after-summed fs es cs paired inside n h)) (w .sums n h))))
 
   -- ---- a change
 
@@ -87,7 +79,7 @@ module _ (fs es : List ℕ) (cs : List ℤ) (lines : linesFault es cs ≡ false)
     small-change =
         let a = frequency i (omega arith) in
         let b = frequency (suc i) (omega arith) in
-        let at : entryAt es i < length (after i) = omega (arith, after-long i, inside-at fs es inside i (omega (arith, same-lines es cs lines))) in
+        let at : entryAt es i < length (after i) = omega (arith, after-long fs es cs i, inside-at fs es inside i (omega (arith, paired))) in
         let moved = getD-set-same (after i) (entryAt es i) (frequencyAt (after i) (entryAt es i) +ℤ changeAt cs i) (pos 0) at in
         change-within (a .0) (b .0) limit (changeAt cs i)
         (ap (λ (z : ℤ). z +ℤ changeAt cs i) (sym (a .1)) ∙ sym moved ∙ ap (λ (l : List ℤ). frequencyAt l (entryAt es i)) (sym (after-next (signed fs) es cs i)) ∙ b .1)

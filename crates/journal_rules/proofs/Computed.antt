@@ -23,6 +23,7 @@ worked =
       past-and-back = refl;
       moved-over = refl;
       least-change = refl;
+      change-of-limit = refl;
       largest-change = refl;
       unchanged = refl;
       lengths = refl;

@@ -8,7 +8,7 @@ use native.Mathlib.Omega.{arith}
 use borrow.Author.Tests.{le-ltb}
 use lib.Dec.{eqb}
 use lib.IntN.{ℤ, pos, natAbs, _+ℤ_}
-use lib.ListN.{length, getD, take, List·getD-map}
+use lib.ListN.{length, getD}
 use lib.Seq.{take-length}
 use Rattle.laws.specs.Each.{each, some}
 use Rattle.laws.specs.Reply.{answered, refused}
@@ -21,8 +21,8 @@ use Rattle.list_rules.specs.Frequencies.{entriesFault, sumFault, listSentences,
 use Rattle.journal_rules.specs.Lines.{signed, unsigned, sumℤ, frequencyAt, entryAt, changeAt, afterLines, changesOf}
 use Rattle.journal_rules.specs.Replaying.{linesFault, outsideFault, breaks, boundFault, replayFault, afterAll, replayed, replayReply}
 use Rattle.journal_rules.specs.Claims.{Afterwards, Journals}
-use Rattle.journal_rules.proofs.SignedLaws.{signed-at, signed-length, signed-sum, unsigned-length, unsigned-signed}
-use Rattle.journal_rules.proofs.LinesLaws.{after-other, after-none, after-length, after-at, after-sum, inside-at, kept-signed, kept-sum, kept-limit}
+use Rattle.journal_rules.proofs.SignedLaws.{signed-at, unsigned-signed}
+use Rattle.journal_rules.proofs.LinesLaws.{after-none, after-frequency, after-summed, all-long, all-other, kept-signed, kept-sum, kept-limit}
 use Rattle.journal_rules.proofs.BoundLaws.{kept-within, within-kept, small-change}
 use Rattle.journal_rules.proofs.ReplayLaws.{list-refused, outside-refused, lines-refused, bound-refused, none-refused, kept-after, replay-sound, replay-lines, replay-inside, replay-kept, replay-refused, replay-answered, many-lines, unequal-lines, same-lines}
 
@@ -42,28 +42,22 @@ module _ (fs es : List ℕ) (cs : List ℤ) (none : replayFault fs es cs ≡ 0) 
   is-last : replayed fs es cs ≡ unsigned last
   is-last = sym (replay-answered fs es cs none .1)
 
-  -- an entry of the list, and the entry of a line, lie in it as they do in the list with sign
-  within : (e : ℕ) → e < length fs → e < length (signed fs)
-  within e h = omega (arith, signed-length fs)
-
   each-moved : (e : ℕ) → e < length fs → pos (getD (replayed fs es cs) e 0) ≡ pos (getD fs e 0) +ℤ changesOf es cs e (length cs)
   each-moved e h =
       ap (λ (l : List ℕ). pos (getD l e 0)) is-last
       ∙ sym (signed-at (unsigned last) e)
       ∙ ap (λ (zs : List ℤ). frequencyAt zs e) (kept-signed last kept)
-      ∙ after-at (signed fs) es cs (length cs) e (within e h)
-      ∙ ap (λ (z : ℤ). z +ℤ changesOf es cs e (length cs)) (signed-at fs e)
+      ∙ after-frequency fs es cs (length cs) e h
 
   sum-moved : pos (sum (replayed fs es cs)) ≡ pos (sum fs) +ℤ sumℤ cs
   sum-moved =
       ap (λ (l : List ℕ). pos (sum l)) is-last
       ∙ kept-sum last kept
-      ∙ after-sum (signed fs) es cs (length cs) (λ i h. within (entryAt es i) (inside-at fs es (replay-inside fs es cs none) i (omega (arith, same-lines es cs (replay-lines fs es cs none)))))
-      ∙ ap (λ (z : ℤ). z +ℤ sumℤ (take (length cs) cs)) (signed-sum fs)
+      ∙ after-summed fs es cs (same-lines es cs (replay-lines fs es cs none)) (replay-inside fs es cs none) (length cs) (le-refl (length cs))
       ∙ ap (λ (l : List ℤ). pos (sum fs) +ℤ sumℤ l) (take-length cs)
 
   same-length : length (replayed fs es cs) ≡ length fs
-  same-length = ap length is-last ∙ unsigned-length last ∙ after-length (signed fs) es cs (length cs) ∙ signed-length fs
+  same-length = ap length is-last ∙ all-long fs es cs
 
   pub replays : Afterwards fs es cs
   replays =
@@ -92,9 +86,7 @@ unfolding replayed
 others-kept fs es cs e h = go (eqb (replayFault fs es cs) 0)
   where
     go : (t : Bool) → getD (cond t (afterAll fs es cs) fs) e 0 ≡ getD fs e 0
-    go true =
-        List·getD-map natAbs (afterLines (signed fs) es cs (length cs)) e (pos 0)
-        ∙ ap natAbs (after-other (signed fs) es cs (length cs) e h ∙ signed-at fs e)
+    go true = all-other fs es cs e h
     go false = refl
 
 -- no lines

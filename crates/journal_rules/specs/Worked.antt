@@ -32,6 +32,8 @@ pub record Worked : Type 0 where
       ∷ replayFault (5 ∷ 7 ∷ []) (0 ∷ 1 ∷ []) (pos 1 ∷ negsuc 2147483647 ∷ [])
       ∷ []
       ≡ 27 ∷ 27 ∷ 27 ∷ []
+  -- a change may be as large as the limit
+  pub change-of-limit : replayReply (0 ∷ []) (0 ∷ 0 ∷ []) (pos 1073741823 ∷ negsuc 1073741822 ∷ []) ≡ answered 0
   pub largest-change : replayReply (0 ∷ []) (0 ∷ []) (pos 2147483647 ∷ []) ≡ refused 27
   -- refused, the list is as it was, whatever the lines before did
   pub unchanged : replayed (5 ∷ 7 ∷ []) (0 ∷ 1 ∷ []) (pos 1 ∷ negsuc 7 ∷ []) ≡ 5 ∷ 7 ∷ []

@@ -59,7 +59,7 @@ changed c =
     let r = c .before .before .before .before in
     let s = r .before .before .before .before .before .before .before .before .before .before in
     let k = replay-bound (s .args .freqs .now) (s .args .entries .now) (s .args .changes .now) (s .pre .0) _ (sym (c .moved .given .1) ∙ of-lines r .0) in
-    of-lines r .1 .replayed k
+    of-lines r .1 .unbroken k
 
 put-changed-requires : tie.Need-put-changed-requires
 put-changed-requires c κs =

@@ -43,7 +43,7 @@ linesChanged fs es cs = cond (boundFault fs es cs) Broken (To (sum (afterAll fs 
 
 -- the list afterwards, unless a line broke a bound
 pub record LinesLeft (fs es : List ℕ) (cs : List ℤ) (left : List ℕ) : Type 0 where
-  pub replayed : boundFault fs es cs ≡ false → left ≡ afterAll fs es cs
+  pub unbroken : boundFault fs es cs ≡ false → left ≡ afterAll fs es cs
 
 -- two lists of one length that hold the same but for the entries of the lines from i on
 pub record ElseSame (copy es fs : List ℕ) (i : ℕ) : Type 0 where
