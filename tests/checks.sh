@@ -41,7 +41,7 @@ form_phrases=(
 )
 
 # The records of specs/ without parameters that are data, as CRATE/RECORD. Any other is a claim, or a set of worked examples.
-data_records=(check_rules/Answer counts_rules/Base counts_rules/Form laws/Reply laws/Sentence sheet_rules/Lines)
+data_records=(check_rules/Answer counts_rules/Base counts_rules/Form journal_rules/Journal laws/Reply laws/Sentence sheet_rules/Lines)
 
 # Prints a fault and counts it in the variable `faults` of the check that calls this.
 fault() {

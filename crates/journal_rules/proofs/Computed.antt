@@ -5,7 +5,8 @@ use Rattle.laws.specs.Refusal.{refusal}
 use Rattle.list_rules.specs.Frequencies.{entriesFault, sumFault}
 use Rattle.journal_rules.specs.Lines.{afterLines, changesOf}
 use Rattle.journal_rules.specs.Replaying.{linesFault, outsideFault, breaks, boundFault, replayed, replayReply}
-use Rattle.journal_rules.specs.Worked.{Worked}
+use Rattle.journal_rules.specs.AddingUp.{hasBackward}
+use Rattle.journal_rules.specs.Worked.{Worked, WorkedTogether}
 
 pub worked : Worked
 unfolding each some refusal entriesFault sumFault afterLines changesOf linesFault outsideFault breaks boundFault replayed replayReply
@@ -30,4 +31,24 @@ worked =
       outside = refl;
       order = refl;
       no-lines = refl;
+    }
+
+pub worked-together : WorkedTogether
+unfolding each some refusal entriesFault sumFault afterLines linesFault outsideFault breaks boundFault replayed replayReply hasBackward
+worked-together =
+    record {
+      in-turn = refl;
+      each-alone = refl;
+      first-replayed = refl;
+      second-needs-first = refl;
+      number-26 = refl;
+      number-same = refl;
+      weeks = refl;
+      weeks-refused = refl;
+      unequal = refl;
+      back = refl;
+      back-answers = refl;
+      back-lines = refl;
+      order-matters = refl;
+      least = refl;
     }

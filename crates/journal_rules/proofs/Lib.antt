@@ -4,3 +4,7 @@ pub mod LinesLaws
 pub mod ReplayLaws
 pub mod BoundLaws
 pub mod Proved
+pub mod JoinedLaws
+pub mod Joining
+pub mod BackwardLaws
+pub mod ReadingBackwards

@@ -112,7 +112,7 @@ module _ (zs : List ℤ) (kept : breaks zs ≡ false) where
   kept-signed = signed-unsigned zs none-below
 
   -- the sum of the frequencies
-  pub kept-sum : pos (sum (unsigned zs)) ≡ sumℤ zs
+  kept-sum : pos (sum (unsigned zs)) ≡ sumℤ zs
   kept-sum = sym (signed-sum (unsigned zs)) ∙ ap sumℤ kept-signed
 
   pub kept-limit : sum (unsigned zs) ≤ limit

@@ -21,10 +21,10 @@ use Rattle.list_rules.specs.Frequencies.{entriesFault, sumFault, listSentences,
 use Rattle.journal_rules.specs.Lines.{signed, unsigned, sumℤ, frequencyAt, entryAt, changeAt, afterLines, changesOf}
 use Rattle.journal_rules.specs.Replaying.{linesFault, outsideFault, breaks, boundFault, replayFault, afterAll, replayed, replayReply}
 use Rattle.journal_rules.specs.Claims.{Afterwards, Journals}
-use Rattle.journal_rules.proofs.SignedLaws.{signed-at, unsigned-signed}
-use Rattle.journal_rules.proofs.LinesLaws.{after-none, after-frequency, after-summed, all-long, all-other, kept-signed, kept-sum, kept-limit}
+use Rattle.journal_rules.proofs.SignedLaws.{signed-at, signed-sum, unsigned-signed}
+use Rattle.journal_rules.proofs.LinesLaws.{after-none, after-frequency, after-summed, all-long, all-other, kept-limit}
 use Rattle.journal_rules.proofs.BoundLaws.{kept-within, within-kept, small-change}
-use Rattle.journal_rules.proofs.ReplayLaws.{list-refused, outside-refused, lines-refused, bound-refused, none-refused, kept-after, replay-sound, replay-lines, replay-inside, replay-kept, replay-refused, replay-answered, many-lines, unequal-lines, same-lines}
+use Rattle.journal_rules.proofs.ReplayLaws.{list-refused, outside-refused, lines-refused, bound-refused, none-refused, kept-after, replay-sound, replay-lines, replay-inside, replay-kept, replay-refused, replay-answered, last-signed, many-lines, unequal-lines, same-lines}
 
 -- a list as long as one that is sound, with a sum within the limit, is sound
 sound-too : (fs gs : List ℕ) → listFault fs ≡ 0 → length gs ≡ length fs → sum gs ≤ limit → listFault gs ≡ 0
@@ -44,15 +44,14 @@ module _ (fs es : List ℕ) (cs : List ℤ) (none : replayFault fs es cs ≡ 0) 
 
   each-moved : (e : ℕ) → e < length fs → pos (getD (replayed fs es cs) e 0) ≡ pos (getD fs e 0) +ℤ changesOf es cs e (length cs)
   each-moved e h =
-      ap (λ (l : List ℕ). pos (getD l e 0)) is-last
-      ∙ sym (signed-at (unsigned last) e)
-      ∙ ap (λ (zs : List ℤ). frequencyAt zs e) (kept-signed last kept)
+      sym (signed-at (replayed fs es cs) e)
+      ∙ ap (λ (zs : List ℤ). frequencyAt zs e) (last-signed fs es cs none)
       ∙ after-frequency fs es cs (length cs) e h
 
   sum-moved : pos (sum (replayed fs es cs)) ≡ pos (sum fs) +ℤ sumℤ cs
   sum-moved =
-      ap (λ (l : List ℕ). pos (sum l)) is-last
-      ∙ kept-sum last kept
+      sym (signed-sum (replayed fs es cs))
+      ∙ ap sumℤ (last-signed fs es cs none)
       ∙ after-summed fs es cs (same-lines es cs (replay-lines fs es cs none)) (replay-inside fs es cs none) (length cs) (le-refl (length cs))
       ∙ ap (λ (l : List ℤ). pos (sum fs) +ℤ sumℤ l) (take-length cs)
 

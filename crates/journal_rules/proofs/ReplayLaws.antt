@@ -1,9 +1,10 @@
 -- Laws of the call that replays a journal (specs/Replaying.antt): what its refusals are, and what it leaves.
 -- Assumes nothing.
 use mathlib.Core.Path.{_≡_, refl, sym, ap, _∙_}
-use mathlib.Core.Bool.{true, false}
+use mathlib.Core.Bool.{Bool, true, false, cond}
 use mathlib.Core.List.{List}
 use Prim.Native.Nat.{ℕ, zero, suc, _≤_, _<_}
+use native.Mathlib.Nat.{le-refl}
 use native.Mathlib.Omega.{arith}
 use borrow.Author.Tests.{ltb-false, lt-ltb, le-ltb, eqb-true, eq-eqb, ne-eqb, not-false}
 use lib.Dec.{ltb}
@@ -12,20 +13,31 @@ use lib.ListN.{length}
 use Rattle.laws.specs.Refusal.{refusal}
 use Rattle.laws.specs.Reply.{answered, refused}
 use Rattle.laws.specs.Sums.{sum}
+use Rattle.laws.proofs.BetweenLaws.{within}
 use Rattle.laws.proofs.EachLaws.{none-at}
 use Rattle.laws.proofs.RefusalLaws.{numbered, none-left, passed, refused as refused-at, none-true, append-passed, append-refused, append-first}
 use Rattle.laws.proofs.ReplyLaws.{lent-refused, lent-answered}
-use Rattle.laws.proofs.Tests.{neither, neither-right, holds-left, holds-right, not-holds, not-fails}
+use Rattle.laws.proofs.Tests.{neither, neither-left, neither-right, holds-left, holds-right, not-holds, not-fails}
 use Rattle.counts_rules.specs.Limit.{limit}
-use Rattle.list_rules.specs.Frequencies.{listSentences, listFault, sumFault}
+use Rattle.list_rules.specs.Limits.{maxEntries}
+use Rattle.list_rules.specs.Frequencies.{listSentences, listFault, entriesFault, sumFault}
 use Rattle.journal_rules.specs.Lines.{signed, afterLines}
 use Rattle.journal_rules.specs.Replaying.{maxLines, linesFault, outsideFault, breaks, breaksAfter, boundFault, journalSentences, replayFault, afterAll, replayed, replayReply}
-use Rattle.journal_rules.proofs.LinesLaws.{after-none, signed-kept}
+use Rattle.journal_rules.proofs.LinesLaws.{after-none, kept-signed, signed-kept}
 
 -- 3 is false
 pub sum-within : (fs : List ℕ) → listFault fs ≡ 0 → sum fs ≤ limit
 unfolding numbered sumFault
 sum-within fs e = ltb-false limit (sum fs) (none-true (listSentences fs) refl e .1 .0)
+
+-- and so is 1
+pub some-entry : (fs : List ℕ) → listFault fs ≡ 0 → 0 < length fs
+unfolding numbered entriesFault
+some-entry fs e = within 1 maxEntries (length fs) (not-false _ (none-true (listSentences fs) refl e .0)) .least
+
+-- the number of lines that 25 does not refuse, by the tests of 26 and 27
+abbrev pub lineNumber : Bool → Bool → ℕ
+lineNumber outside bound = cond outside 26 (cond bound 27 0)
 
 module _ (fs es : List ℕ) (cs : List ℤ) where
   pub list-refused : (listFault fs ≡ 0 → ⊥) → replayFault fs es cs ≡ listFault fs
@@ -50,6 +62,10 @@ module _ (fs es : List ℕ) (cs : List ℤ) where
 
         pub none-refused : boundFault fs es cs ≡ false → replayFault fs es cs ≡ 0
         none-refused f = after-list ∙ passed _ _ lines ∙ passed _ _ inside ∙ passed _ _ f ∙ none-left
+
+      pub by-lines : replayFault fs es cs ≡ lineNumber (outsideFault fs es) (boundFault fs es cs)
+      unfolding refusal
+      by-lines = after-list ∙ ap (λ (t : Bool). cond t 25 (lineNumber (outsideFault fs es) (boundFault fs es cs))) lines
 
   -- after each line both bounds are kept, and before the first
   pub kept-after : listFault fs ≡ 0 → boundFault fs es cs ≡ false → (n : ℕ) → n ≤ length cs → breaks (afterLines (signed fs) es cs n) ≡ false
@@ -85,6 +101,12 @@ module _ (fs es : List ℕ) (cs : List ℤ) where
   unfolding replayReply replayed
   replay-answered e = lent-answered (replayFault fs es cs) (sum (afterAll fs es cs)) (afterAll fs es cs) fs e
 
+  -- the list afterwards, with sign, is what the lines made of the list
+  pub last-signed : replayFault fs es cs ≡ 0 → signed (replayed fs es cs) ≡ afterLines (signed fs) es cs (length cs)
+  last-signed none =
+      ap signed (sym (replay-answered none .1))
+      ∙ kept-signed (afterLines (signed fs) es cs (length cs)) (kept-after (replay-sound none) (replay-kept none) (length cs) (le-refl (length cs)))
+
 -- ---- 25
 
 pub many-lines : (es : List ℕ) (cs : List ℤ) → maxLines < length es → linesFault es cs ≡ true
@@ -102,3 +124,7 @@ paired-lines es cs h e = neither (ltb maxLines (length es)) _ (le-ltb maxLines (
 pub same-lines : (es : List ℕ) (cs : List ℤ) → linesFault es cs ≡ false → length es ≡ length cs
 unfolding linesFault
 same-lines es cs f = eqb-true (length es) (length cs) (not-false _ (neither-right (ltb maxLines (length es)) _ f))
+
+pub few-lines : (es : List ℕ) (cs : List ℤ) → linesFault es cs ≡ false → length es ≤ maxLines
+unfolding linesFault
+few-lines es cs f = ltb-false maxLines (length es) (neither-left (ltb maxLines (length es)) _ f)

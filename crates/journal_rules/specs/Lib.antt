@@ -1,4 +1,5 @@
 pub mod Lines
 pub mod Replaying
 pub mod Claims
+pub mod AddingUp
 pub mod Worked

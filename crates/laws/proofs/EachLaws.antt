@@ -1,15 +1,15 @@
 -- Laws of `each` and `some` (specs/Each.antt): what they say of a number below n, and what shows them. By induction on n.
 -- Assumes nothing.
 use mathlib.Core.Path.{_≡_, refl, sym, ap, _∙_}
-use mathlib.Core.Bool.{Bool, true, false, not, _&&_}
+use mathlib.Core.Bool.{Bool, true, false, not, _&&_, _||_, and-true, and-assoc}
 use mathlib.Core.Logic.{⊎-elim}
 use Prim.Native.Nat.{ℕ, zero, suc, _+_, _≤_, _<_}
-use native.Mathlib.Nat.{eq-or-lt-of-le, le-of-suc-le-suc}
+use native.Mathlib.Nat.{add-zero, add-suc, eq-or-lt-of-le, le-of-suc-le-suc}
 use native.Mathlib.Omega.{arith}
 use borrow.Author.Count.{below-more}
 use borrow.Author.Tests.{not-true, not-false}
 use Rattle.laws.specs.Each.{each, some}
-use Rattle.laws.proofs.Tests.{both, both-left, both-right, fails-left, fails-right, not-holds}
+use Rattle.laws.proofs.Tests.{both, both-left, both-right, fails-left, fails-right, not-holds, not-both}
 
 pub each-at : (n : ℕ) (p : ℕ → Bool) → each n p ≡ true → (i : ℕ) → i < n → p i ≡ true
 unfolding each
@@ -57,6 +57,20 @@ none-at n p f i h = not-true _ (each-at n (λ j. not (p j)) (not-false _ f) i h)
 pub some-same : (n : ℕ) (p q : ℕ → Bool) → ((i : ℕ) → i < n → p i ≡ q i) → some n p ≡ some n q
 unfolding some
 some-same n p q h = ap not (each-same n (λ i. not (p i)) (λ i. not (q i)) (λ i l. ap not (h i l)))
+
+-- of the first m numbers, or of the n after them
+
+each-add : (m n : ℕ) (p : ℕ → Bool) → each (m + n) p ≡ (each m p && each n (λ i. p (m + i)))
+unfolding each
+each-add m zero p = ap (λ (k : ℕ). each k p) (add-zero m) ∙ sym (and-true (each m p))
+each-add m (suc n) p =
+    ap (λ (k : ℕ). each k p) (add-suc m n)
+    ∙ ap (λ (t : Bool). t && p (m + n)) (each-add m n p)
+    ∙ and-assoc (each m p) (each n (λ i. p (m + i))) (p (m + n))
+
+pub some-add : (m n : ℕ) (p : ℕ → Bool) → some (m + n) p ≡ (some m p || some n (λ i. p (m + i)))
+unfolding some
+some-add m n p = ap not (each-add m n (λ i. not (p i))) ∙ not-both (each m (λ i. not (p i))) (each n (λ i. not (p (m + i))))
 
 -- ---- a loop that looks for the first of n numbers that passes
 

@@ -77,6 +77,10 @@ pub not-fails : (t : Bool) → t ≡ true → not t ≡ false
 not-fails true p = refl
 not-fails false p = absurd (true-not-false p refl)
 
+pub not-both : (a b : Bool) → not (a && b) ≡ (not a || not b)
+not-both true b = refl
+not-both false b = refl
+
 -- a test that cannot fail holds, and one that cannot hold fails
 pub is-true : (t : Bool) → (t ≡ false → ⊥) → t ≡ true
 is-true true h = refl
