@@ -3,7 +3,7 @@
 -- Assumes nothing.
 use mathlib.Core.Path.{_≡_, refl, sym, ap, _∙_}
 use mathlib.Core.Bool.{Bool, true, false, not, _&&_, and-true, and-comm, and-assoc}
-use mathlib.Core.List.{List, [], _∷_, _++_, map, reverse, reverse-cons, reverse-append, reverse-reverse}
+use mathlib.Core.List.{List, [], _∷_, _++_, map, map-append, reverse, reverse-cons, reverse-append, reverse-reverse}
 use Prim.Native.Nat.{ℕ, zero, suc, _≤_, _<_}
 use native.Mathlib.Omega.{arith}
 use borrow.Author.Tests.{leb-true, le-leb, lt-leb, eqb-true, eqb-false, ne-eqb}
@@ -29,31 +29,31 @@ line-undone zs e c h =
 -- ---- what holds of all changes
 
 -- a test of each change, by the list
-abbrev all : (ℤ → Bool) → List ℤ → Bool
-all p [] = true
-all p (c ∷ cs) = p c && all p cs
+abbrev allOf : (ℤ → Bool) → List ℤ → Bool
+allOf p [] = true
+allOf p (c ∷ cs) = p c && allOf p cs
 
 each-first : (n : ℕ) (p : ℕ → Bool) → each (suc n) p ≡ (p 0 && each n (λ i. p (suc i)))
 unfolding each
 each-first zero p = sym (and-true (p 0))
 each-first (suc n) p = ap (λ (t : Bool). t && p (suc n)) (each-first n p) ∙ and-assoc (p 0) (each n (λ i. p (suc i))) (p (suc n))
 
-each-change : (p : ℤ → Bool) (cs : List ℤ) → each (length cs) (λ i. p (changeAt cs i)) ≡ all p cs
+each-change : (p : ℤ → Bool) (cs : List ℤ) → each (length cs) (λ i. p (changeAt cs i)) ≡ allOf p cs
 unfolding each
 each-change p [] = refl
 each-change p (c ∷ cs) = each-first (length cs) (λ i. p (changeAt (c ∷ cs) i)) ∙ ap (λ (t : Bool). p c && t) (each-change p cs)
 
-all-append : (p : ℤ → Bool) (xs ys : List ℤ) → all p (xs ++ ys) ≡ (all p xs && all p ys)
+all-append : (p : ℤ → Bool) (xs ys : List ℤ) → allOf p (xs ++ ys) ≡ (allOf p xs && allOf p ys)
 all-append p [] ys = refl
-all-append p (x ∷ xs) ys = ap (λ (t : Bool). p x && t) (all-append p xs ys) ∙ sym (and-assoc (p x) (all p xs) (all p ys))
+all-append p (x ∷ xs) ys = ap (λ (t : Bool). p x && t) (all-append p xs ys) ∙ sym (and-assoc (p x) (allOf p xs) (allOf p ys))
 
-all-reverse : (p : ℤ → Bool) (cs : List ℤ) → all p (reverse cs) ≡ all p cs
+all-reverse : (p : ℤ → Bool) (cs : List ℤ) → allOf p (reverse cs) ≡ allOf p cs
 all-reverse p [] = refl
 all-reverse p (c ∷ cs) =
-    ap (all p) (reverse-cons c cs)
+    ap (allOf p) (reverse-cons c cs)
     ∙ all-append p (reverse cs) (c ∷ [])
-    ∙ and-comm (all p (reverse cs)) (p c && true)
-    ∙ ap (λ (t : Bool). t && all p (reverse cs)) (and-true (p c))
+    ∙ and-comm (allOf p (reverse cs)) (p c && true)
+    ∙ ap (λ (t : Bool). t && allOf p (reverse cs)) (and-true (p c))
     ∙ ap (λ (t : Bool). p c && t) (all-reverse p cs)
 
 -- ---- negations of 32 bits
@@ -70,11 +70,11 @@ negation-in-32-bits (negsuc n) h = go (eqb n maxChange) refl
         let other = eqb-false n maxChange e in
         le-leb (suc n) maxChange (omega arith)
 
-all-negated : (cs : List ℤ) → all in32Bits cs ≡ true → all in32Bits (map negℤ cs) ≡ all (λ c. not (isLeast c)) cs
+all-negated : (cs : List ℤ) → allOf in32Bits cs ≡ true → allOf in32Bits (map negℤ cs) ≡ allOf (λ c. not (isLeast c)) cs
 all-negated [] h = refl
 all-negated (c ∷ cs) h =
-    let first = negation-in-32-bits c (both-left (in32Bits c) (all in32Bits cs) h) in
-    let rest = all-negated cs (both-right (in32Bits c) (all in32Bits cs) h) in
+    let first = negation-in-32-bits c (both-left (in32Bits c) (allOf in32Bits cs) h) in
+    let rest = all-negated cs (both-right (in32Bits c) (allOf in32Bits cs) h) in
     λ i. first i && rest i
 
 pub backward-in-32-bits : (j : Journal) → of32Bits j ≡ true → of32Bits (backward j) ≡ hasBackward j
@@ -88,14 +88,10 @@ backward-in-32-bits j h =
 
 -- ---- joined, and twice
 
-negated-append : (xs ys : List ℤ) → map negℤ (xs ++ ys) ≡ map negℤ xs ++ map negℤ ys
-negated-append [] ys = refl
-negated-append (x ∷ xs) ys = ap (λ (l : List ℤ). negℤ x ∷ l) (negated-append xs ys)
-
 pub backward-joined : (a b : Journal) → backward (joined a b) ≡ joined (backward b) (backward a)
 backward-joined a b =
     let e = reverse-append (a .entries) (b .entries) in
-    let c = ap reverse (negated-append (a .changes) (b .changes)) ∙ reverse-append (map negℤ (a .changes)) (map negℤ (b .changes)) in
+    let c = ap reverse (map-append negℤ (a .changes) (b .changes)) ∙ reverse-append (map negℤ (a .changes)) (map negℤ (b .changes)) in
     λ i. record { entries = e i; changes = c i }
 
 negated-twice : (cs : List ℤ) → reverse (map negℤ (reverse (map negℤ cs))) ≡ cs
@@ -105,7 +101,7 @@ negated-twice (c ∷ cs) =
     let first = negℤ-negℤ c in
     let rest = negated-twice cs in
     ap (λ (l : List ℤ). reverse (map negℤ l)) (reverse-cons (negℤ c) (map negℤ cs))
-    ∙ ap reverse (negated-append back (negℤ c ∷ []))
+    ∙ ap reverse (map-append negℤ back (negℤ c ∷ []))
     ∙ reverse-append (map negℤ back) (negℤ (negℤ c) ∷ [])
     ∙ λ i. first i ∷ rest i
 

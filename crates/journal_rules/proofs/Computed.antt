@@ -5,7 +5,7 @@ use Rattle.laws.specs.Refusal.{refusal}
 use Rattle.list_rules.specs.Frequencies.{entriesFault, sumFault}
 use Rattle.journal_rules.specs.Lines.{afterLines, changesOf}
 use Rattle.journal_rules.specs.Replaying.{linesFault, outsideFault, breaks, boundFault, replayed, replayReply}
-use Rattle.journal_rules.specs.AddingUp.{hasBackward}
+use Rattle.journal_rules.specs.AddingUp.{hasBackward, of32Bits}
 use Rattle.journal_rules.specs.Worked.{Worked, WorkedTogether}
 
 pub worked : Worked
@@ -34,7 +34,7 @@ worked =
     }
 
 pub worked-together : WorkedTogether
-unfolding each some refusal entriesFault sumFault afterLines linesFault outsideFault breaks boundFault replayed replayReply hasBackward
+unfolding each some refusal entriesFault sumFault afterLines linesFault outsideFault breaks boundFault replayed replayReply hasBackward of32Bits
 worked-together =
     record {
       in-turn = refl;
@@ -44,11 +44,12 @@ worked-together =
       number-26 = refl;
       number-same = refl;
       weeks = refl;
-      weeks-refused = refl;
+      weeks-in-turn = refl;
       unequal = refl;
       back = refl;
       back-answers = refl;
       back-lines = refl;
       order-matters = refl;
+      bits = refl;
       least = refl;
     }

@@ -12,36 +12,19 @@ use lib.Dec.{ltb, eqb}
 use lib.IntN.{ℤ, pos, +ℤ-idr}
 use lib.ListN.{length, getD, set, replicate, length-append, length-replicate}
 use lib.Seq.{set-getD}
-use Rattle.laws.specs.Each.{some}
-use Rattle.laws.specs.Refusal.{refusal}
 use Rattle.laws.specs.Reply.{answered, refused}
 use Rattle.laws.specs.Sums.{sum}
 use Rattle.laws.proofs.EachLaws.{some-none}
 use Rattle.laws.proofs.Tests.{fails-left, not-fails, not-chosen}
-use Rattle.list_rules.specs.Frequencies.{entriesFault, sumFault, listFault}
-use Rattle.journal_rules.specs.Lines.{signed, unsigned, frequencyAt, entryAt, afterLine, afterLines}
+use Rattle.list_rules.specs.Frequencies.{listFault}
+use Rattle.journal_rules.specs.Lines.{signed, unsigned, frequencyAt, afterLine, afterLines}
 use Rattle.journal_rules.specs.Replaying.{maxLines, linesFault, outsideAt, outsideFault, breaks, breaksAfter, boundFault}
 use Rattle.journal_rules.specs.AddingUp.{Journal, faultOf, replyOf, listAfter, joined, inTurnFault, joinedFault, EqualLists, Joinable, joinedAll, allInTurnFault, listAfterAll, AllEqual, AllJoinable, idle, Joining}
 use Rattle.journal_rules.proofs.SignedLaws.{unsigned-signed}
 use Rattle.journal_rules.proofs.LinesLaws.{signed-kept}
-use Rattle.journal_rules.proofs.ReplayLaws.{sum-within, some-entry, lineNumber, list-refused, none-refused, by-lines, replay-lines, replay-answered, last-signed, paired-lines, few-lines}
+use Rattle.journal_rules.proofs.ReplayLaws.{list-number, sum-within, some-entry, lineNumber, outside-same, list-refused, none-refused, by-lines, replay-lines, replay-answered, last-signed, paired-lines, same-lines, few-lines}
 use Rattle.journal_rules.proofs.JoinedLaws.{boundFrom, bound-from, outside-joined, after-both, bound-joined}
 use Rattle.journal_rules.proofs.Proved.{replays, journals}
-
--- 1 and 3 are the numbers of a list
-list-number : (fs : List ℕ) → listFault fs ≤ 3
-unfolding refusal
-list-number fs = go (entriesFault fs) (sumFault fs)
-  where
-    go : (s t : Bool) → cond s 1 (cond t 3 0) ≤ 3
-    go true t = omega arith
-    go false true = omega arith
-    go false false = omega arith
-
--- 26 goes by the length of the list alone
-pub outside-same : (fs gs es : List ℕ) → length gs ≡ length fs → outsideFault gs es ≡ outsideFault fs es
-unfolding outsideFault
-outside-same fs gs es e = ap (λ (n : ℕ). some (length es) (λ i. not (ltb (entryAt es i) n))) e
 
 -- ---- the number of the joined journal, by the tests of both
 
@@ -168,6 +151,16 @@ module _ (fs : List ℕ) (a b : Journal) (j : Joinable a b) where
         ∙ ap (λ (l : List ℕ). answered (sum l)) same-list
         ∙ sym (replays fs (joined a b .entries) (joined a b .changes) (joined-accepted none) .sum-answered)
 
+-- a journal that is accepted is of two equal lists
+
+accepted-equal : (fs : List ℕ) (a : Journal) → faultOf fs a ≡ 0 → EqualLists a
+accepted-equal fs a none = same-lines (a .entries) (a .changes) (replay-lines fs (a .entries) (a .changes) none)
+
+in-turn-equal : (fs : List ℕ) (a b : Journal) → inTurnFault fs a b ≡ 0 → EqualLists a × EqualLists b
+in-turn-equal fs a b none =
+    let both = both-zero (faultOf fs a) (faultOf (listAfter fs a) b) none in
+    (accepted-equal fs a (both .0), accepted-equal (listAfter fs a) b (both .1))
+
 accepted-in-turn : (fs : List ℕ) (a b : Journal) → EqualLists a → EqualLists b → faultOf fs (joined a b) ≡ 0 → Joinable a b × (inTurnFault fs a b ≡ 0)
 accepted-in-turn fs a b p q none = (joinable, both-accepted fs a b joinable none)
   where
@@ -216,6 +209,12 @@ module _ (fs : List ℕ) (a b : Journal) (bs : List Journal) where
 
   others-joined : faultOf fs a ≡ 0 → faultOf (listAfter fs a) (joinedAll b bs) ≡ 0 → inTurnFault fs a (joinedAll b bs) ≡ 0
   others-joined first others = in-turn fs (listAfter fs a) a (joinedAll b bs) first refl others
+
+all-in-turn-equal : (fs : List ℕ) (a : Journal) (bs : List Journal) → allInTurnFault fs a bs ≡ 0 → AllEqual a bs
+all-in-turn-equal fs a [] none = accepted-equal fs a none
+all-in-turn-equal fs a (b ∷ bs) none =
+    let split = split-in-turn fs a b bs none in
+    (accepted-equal fs a (split .0), all-in-turn-equal (listAfter fs a) b bs (split .1))
 
 all-joined-accepted : (fs : List ℕ) (a : Journal) (bs : List Journal) → AllJoinable a bs → allInTurnFault fs a bs ≡ 0 → faultOf fs (joinedAll a bs) ≡ 0
 all-joined-accepted fs a [] j none = none
@@ -299,11 +298,13 @@ pub joining : Joining
 joining =
     record {
       joined-accepted = joined-accepted;
+      in-turn-equal = in-turn-equal;
       accepted-in-turn = accepted-in-turn;
       same-list = same-list;
       same-reply = same-reply;
       joined-number = joined-number;
       all-joined-accepted = all-joined-accepted;
+      all-in-turn-equal = all-in-turn-equal;
       all-accepted-in-turn = all-accepted-in-turn;
       all-same-list = all-same-list;
       limit-needed = limit-needed;

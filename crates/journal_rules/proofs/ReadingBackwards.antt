@@ -18,10 +18,10 @@ use Rattle.journal_rules.specs.Claims.{Afterwards}
 use Rattle.journal_rules.specs.AddingUp.{Journal, faultOf, listAfter, joined, inTurnFault, EqualLists, Joinable, isLeast, hasBackward, backward, of32Bits, BroughtBack, ReadingBackwards}
 use Rattle.journal_rules.proofs.SignedLaws.{signed-length, unsigned-signed}
 use Rattle.journal_rules.proofs.LinesLaws.{inside-at, signed-kept}
-use Rattle.journal_rules.proofs.ReplayLaws.{sum-within, none-refused, replay-sound, replay-lines, replay-inside, replay-answered, last-signed, paired-lines, same-lines, few-lines}
+use Rattle.journal_rules.proofs.ReplayLaws.{sum-within, outside-same, none-refused, replay-sound, replay-lines, replay-inside, replay-answered, last-signed, paired-lines, same-lines, few-lines}
 use Rattle.journal_rules.proofs.BackwardLaws.{line-undone, small-in-32-bits, backward-in-32-bits, backward-joined, backward-twice, small-not-least}
 use Rattle.journal_rules.proofs.Proved.{replays, journals}
-use Rattle.journal_rules.proofs.Joining.{outside-same, joined-accepted, both-accepted, first-accepted, second-accepted, same-list, in-turn}
+use Rattle.journal_rules.proofs.Joining.{joined-accepted, both-accepted, first-accepted, second-accepted, same-list, in-turn}
 
 -- what is shown of a journal line by line
 record Back (fs : List ℕ) (j : Journal) : Type 0 where

@@ -1,7 +1,7 @@
 -- Laws of the call that replays a journal (specs/Replaying.antt): what its refusals are, and what it leaves.
 -- Assumes nothing.
 use mathlib.Core.Path.{_≡_, refl, sym, ap, _∙_}
-use mathlib.Core.Bool.{Bool, true, false, cond}
+use mathlib.Core.Bool.{Bool, true, false, cond, not}
 use mathlib.Core.List.{List}
 use Prim.Native.Nat.{ℕ, zero, suc, _≤_, _<_}
 use native.Mathlib.Nat.{le-refl}
@@ -10,6 +10,7 @@ use borrow.Author.Tests.{ltb-false, lt-ltb, le-ltb, eqb-true, eq-eqb, ne-eqb, no
 use lib.Dec.{ltb}
 use lib.IntN.{ℤ}
 use lib.ListN.{length}
+use Rattle.laws.specs.Each.{some}
 use Rattle.laws.specs.Refusal.{refusal}
 use Rattle.laws.specs.Reply.{answered, refused}
 use Rattle.laws.specs.Sums.{sum}
@@ -21,9 +22,19 @@ use Rattle.laws.proofs.Tests.{neither, neither-left, neither-right, holds-left,
 use Rattle.counts_rules.specs.Limit.{limit}
 use Rattle.list_rules.specs.Limits.{maxEntries}
 use Rattle.list_rules.specs.Frequencies.{listSentences, listFault, entriesFault, sumFault}
-use Rattle.journal_rules.specs.Lines.{signed, afterLines}
+use Rattle.journal_rules.specs.Lines.{signed, entryAt, afterLines}
 use Rattle.journal_rules.specs.Replaying.{maxLines, linesFault, outsideFault, breaks, breaksAfter, boundFault, journalSentences, replayFault, afterAll, replayed, replayReply}
 use Rattle.journal_rules.proofs.LinesLaws.{after-none, kept-signed, signed-kept}
+
+-- 3 is the largest number of a list
+pub list-number : (fs : List ℕ) → listFault fs ≤ 3
+unfolding refusal
+list-number fs = go (entriesFault fs) (sumFault fs)
+  where
+    go : (s t : Bool) → cond s 1 (cond t 3 0) ≤ 3
+    go true t = omega arith
+    go false true = omega arith
+    go false false = omega arith
 
 -- 3 is false
 pub sum-within : (fs : List ℕ) → listFault fs ≡ 0 → sum fs ≤ limit
@@ -128,3 +139,10 @@ same-lines es cs f = eqb-true (length es) (length cs) (not-false _ (neither-righ
 pub few-lines : (es : List ℕ) (cs : List ℤ) → linesFault es cs ≡ false → length es ≤ maxLines
 unfolding linesFault
 few-lines es cs f = ltb-false maxLines (length es) (neither-left (ltb maxLines (length es)) _ f)
+
+-- ---- 26
+
+-- it goes by the length of the list alone
+pub outside-same : (fs gs es : List ℕ) → length gs ≡ length fs → outsideFault gs es ≡ outsideFault fs es
+unfolding outsideFault
+outside-same fs gs es e = ap (λ (n : ℕ). some (length es) (λ i. not (ltb (entryAt es i) n))) e

@@ -71,6 +71,7 @@ abbrev pub allInTurnFault : List ℕ → Journal → List Journal → ℕ
 allInTurnFault fs a [] = faultOf fs a
 allInTurnFault fs a (b ∷ bs) = cond (eqb (faultOf fs a) 0) (allInTurnFault (listAfter fs a) b bs) (faultOf fs a)
 
+-- where none is refused
 abbrev pub listAfterAll : List ℕ → Journal → List Journal → List ℕ
 listAfterAll fs a [] = listAfter fs a
 listAfterAll fs a (b ∷ bs) = listAfterAll (listAfter fs a) b bs
@@ -90,6 +91,7 @@ idle n = record { entries = replicate n 0; changes = replicate n (pos 0) }
 pub record Joining : Type 0 where
   -- "the joined one is accepted exactly then"
   pub joined-accepted : (fs : List ℕ) (a b : Journal) → Joinable a b → inTurnFault fs a b ≡ 0 → faultOf fs (joined a b) ≡ 0
+  pub in-turn-equal : (fs : List ℕ) (a b : Journal) → inTurnFault fs a b ≡ 0 → EqualLists a × EqualLists b
   pub accepted-in-turn : (fs : List ℕ) (a b : Journal) → EqualLists a → EqualLists b → faultOf fs (joined a b) ≡ 0 → Joinable a b × (inTurnFault fs a b ≡ 0)
   -- the two then "act as the joined journal": the list afterwards is the same, and so is the last reply
   pub same-list : (fs : List ℕ) (a b : Journal) → Joinable a b → inTurnFault fs a b ≡ 0 → listAfter (listAfter fs a) b ≡ listAfter fs (joined a b)
@@ -98,6 +100,7 @@ pub record Joining : Type 0 where
   pub joined-number : (fs : List ℕ) (a b : Journal) → Joinable a b → faultOf fs (joined a b) ≡ joinedFault fs a b
   -- the same of more than two, as the journals of the weeks of a month
   pub all-joined-accepted : (fs : List ℕ) (a : Journal) (bs : List Journal) → AllJoinable a bs → allInTurnFault fs a bs ≡ 0 → faultOf fs (joinedAll a bs) ≡ 0
+  pub all-in-turn-equal : (fs : List ℕ) (a : Journal) (bs : List Journal) → allInTurnFault fs a bs ≡ 0 → AllEqual a bs
   pub all-accepted-in-turn : (fs : List ℕ) (a : Journal) (bs : List Journal) → AllEqual a bs → faultOf fs (joinedAll a bs) ≡ 0
       → AllJoinable a bs × (allInTurnFault fs a bs ≡ 0)
   pub all-same-list : (fs : List ℕ) (a : Journal) (bs : List Journal) → AllJoinable a bs → allInTurnFault fs a bs ≡ 0
@@ -128,7 +131,7 @@ hasBackward j = each (length (j .changes)) (λ i. not (isLeast (changeAt (j .cha
 abbrev pub backward : Journal → Journal
 backward j = record { entries = reverse (j .entries); changes = reverse (map negℤ (j .changes)) }
 
--- a journal that can be lent: each of its changes has 32 bits
+-- changes that can be lent: each has 32 bits
 unfoldable pub of32Bits : Journal → Bool
 of32Bits j = each (length (j .changes)) (λ i. in32Bits (changeAt (j .changes) i))
 

@@ -9,7 +9,7 @@ use lib.IntN.{ℤ, pos, negsuc}
 use Rattle.laws.specs.Reply.{answered, refused}
 use Rattle.journal_rules.specs.Lines.{changesOf}
 use Rattle.journal_rules.specs.Replaying.{lengthsFault, replayFault, replayReply, replayed}
-use Rattle.journal_rules.specs.AddingUp.{Journal, faultOf, replyOf, listAfter, joined, inTurnFault, joinedFault, joinedAll, allInTurnFault, listAfterAll, hasBackward, backward}
+use Rattle.journal_rules.specs.AddingUp.{Journal, faultOf, replyOf, listAfter, joined, inTurnFault, joinedFault, joinedAll, allInTurnFault, listAfterAll, hasBackward, backward, of32Bits}
 
 -- `negsuc n` is -(n + 1)
 pub record Worked : Type 0 where
@@ -105,19 +105,21 @@ pub record WorkedTogether : Type 0 where
       ∷ joinedFault [] (line 0 (pos 0)) (line 0 (pos 0))
       ∷ []
       ≡ 26 ∷ 27 ∷ 27 ∷ 1 ∷ []
-  -- three weeks over 5 and 0: 4 less of entry 0, 4 more of entry 1 and 1 less of entry 0
+  -- three weeks over 0: 4 more, 4 less and 1 more
   pub weeks :
-      listAfterAll (5 ∷ 0 ∷ []) (line 0 (negsuc 3)) (line 1 (pos 4) ∷ line 0 (negsuc 0) ∷ [])
-      ∷ listAfter (5 ∷ 0 ∷ []) (joinedAll (line 0 (negsuc 3)) (line 1 (pos 4) ∷ line 0 (negsuc 0) ∷ []))
+      listAfterAll (0 ∷ []) (line 0 (pos 4)) (line 0 (negsuc 3) ∷ line 0 (pos 1) ∷ [])
+      ∷ listAfter (0 ∷ []) (joinedAll (line 0 (pos 4)) (line 0 (negsuc 3) ∷ line 0 (pos 1) ∷ []))
       ∷ []
-      ≡ (0 ∷ 4 ∷ []) ∷ (0 ∷ 4 ∷ []) ∷ []
-  -- the same over 4 and 0, of which the last is refused
-  pub weeks-refused :
-      allInTurnFault (4 ∷ 0 ∷ []) (line 0 (negsuc 3)) (line 1 (pos 4) ∷ [])
-      ∷ allInTurnFault (4 ∷ 0 ∷ []) (line 0 (negsuc 3)) (line 1 (pos 4) ∷ line 0 (negsuc 0) ∷ [])
-      ∷ faultOf (4 ∷ 0 ∷ []) (joinedAll (line 0 (negsuc 3)) (line 1 (pos 4) ∷ line 0 (negsuc 0) ∷ []))
+      ≡ (1 ∷ []) ∷ (1 ∷ []) ∷ []
+  -- all of them are accepted, or the first, the second or the last is refused
+  pub weeks-in-turn :
+      allInTurnFault (0 ∷ []) (line 0 (pos 4)) (line 0 (negsuc 3) ∷ line 0 (pos 1) ∷ [])
+      ∷ allInTurnFault (0 ∷ []) (line 1 (pos 4)) (line 0 (negsuc 3) ∷ line 0 (pos 1) ∷ [])
+      ∷ allInTurnFault (0 ∷ []) (line 0 (pos 4)) (line 0 (negsuc 4) ∷ line 0 (pos 1) ∷ [])
+      ∷ allInTurnFault (0 ∷ []) (line 0 (pos 4)) (line 0 (negsuc 3) ∷ line 0 (negsuc 0) ∷ [])
+      ∷ faultOf (0 ∷ []) (joinedAll (line 0 (pos 4)) (line 0 (negsuc 3) ∷ line 0 (negsuc 0) ∷ []))
       ∷ []
-      ≡ 0 ∷ 27 ∷ 27 ∷ []
+      ≡ 0 ∷ 26 ∷ 27 ∷ 27 ∷ 27 ∷ []
   -- an entry without a change and a change without an entry: both are refused, and joined they are a line
   pub unequal :
       faultOf (5 ∷ []) (journal (0 ∷ []) [])
@@ -138,5 +140,8 @@ pub record WorkedTogether : Type 0 where
       ∷ faultOf (0 ∷ []) (journal (0 ∷ 0 ∷ []) (negsuc 4 ∷ pos 5 ∷ []))
       ∷ []
       ≡ 0 ∷ 0 ∷ 27 ∷ []
-  -- the least change of 32 bits has no negation, and the next one has
+  -- the least change of 32 bits has a negation of more, and a journal that holds it no backward journal
+  pub bits :
+      of32Bits (line 0 (negsuc 2147483647)) ∷ of32Bits (backward (line 0 (negsuc 2147483647))) ∷ of32Bits (line 0 (negsuc 2147483648)) ∷ of32Bits (line 0 (pos 2147483647)) ∷ []
+      ≡ true ∷ false ∷ false ∷ true ∷ []
   pub least : hasBackward (line 0 (negsuc 2147483647)) ∷ hasBackward (line 0 (negsuc 2147483646)) ∷ hasBackward (line 0 (pos 2147483647)) ∷ [] ≡ false ∷ true ∷ true ∷ []
