@@ -254,7 +254,11 @@ typedef struct {
  * without lines changes nothing. qh_check tells whether a histogram of the old list is fit for the new one. Refused with
  * 1, 3, then 25, 26 and 27, each tested over all lines before the next, and 25 by the two lengths alone. Nothing is
  * written before all lines have passed, so that a refused call has not written on the way either, and then only at the
- * entries that lines name; that is tested, not proved. */
+ * entries that lines name; that is tested, not proved. Two journals, each of two lists of equal length and together of
+ * at most QH_MAX_LINES lines, are accepted one after the other exactly if the journal that joins their lines is, and then
+ * leave the same list. An accepted journal is taken back by its lines in reverse order with every change negated: they
+ * are accepted on the new list and restore the old one. No change of an accepted journal is INT32_MIN, so that each can
+ * be negated. */
 QhReplayed qh_replay_journal(uint32_t *freqs, size_t freqs_len, const uint32_t *entries, size_t entries_len,
                              const int32_t *changes, size_t changes_len);
 

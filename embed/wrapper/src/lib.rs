@@ -242,6 +242,22 @@ pub fn find(words: &[u32], entry: u32) -> Result<&[u32], Refusal> {
 /// assert_eq!(replay_journal(&mut freqs, &[1, 0], &[-1, 1_073_741_790])?, 1_073_741_823);
 /// # Ok::<(), Refusal>(())
 /// ```
+///
+/// Two journals, each with as many changes as entries and together of at most 65,536 lines, are accepted one after the
+/// other exactly if the journal that joins their lines is, and then leave the same list. An accepted journal is taken back
+/// by its lines in reverse order with every change negated; none of its changes is `i32::MIN`, which has no negation.
+///
+/// ```
+/// use qh::{replay_journal, Refusal};
+/// let (mut weekly, mut monthly) = ([10, 10, 10, 10], [10, 10, 10, 10]);
+/// replay_journal(&mut weekly, &[3, 0], &[-10, 4])?;
+/// replay_journal(&mut weekly, &[3, 1], &[2, -1])?;
+/// replay_journal(&mut monthly, &[3, 0, 3, 1], &[-10, 4, 2, -1])?;
+/// assert_eq!(weekly, monthly);
+/// assert_eq!(replay_journal(&mut monthly, &[1, 3, 0, 3], &[1, -2, -4, 10])?, 40);
+/// assert_eq!(monthly, [10, 10, 10, 10]);
+/// # Ok::<(), Refusal>(())
+/// ```
 pub fn replay_journal(freqs: &mut [u32], entries: &[u32], changes: &[i32]) -> Result<u32, Refusal> {
     let (list, list_len) = (freqs.as_mut_ptr(), freqs.len());
     let replayed =
