@@ -1,4 +1,5 @@
-//! Request (vii) of document 02: the lending journal, replayed over a frequency list.
+//! Request (vii) of document 02: the lending journal, replayed over a frequency list. Request (viii): two journals
+//! joined, and one backwards.
 
 use crate::list::{count, list_fault, COUNT_LIMIT};
 
@@ -58,4 +59,27 @@ pub fn replay_journal(way: Way, frequencies: &mut [u32], entries: &[u32], change
         *frequency = u32::try_from(after).expect("it is within the bounds");
     }
     Ok(count(frequencies) as u32)
+}
+
+/// The lines of a journal and, after them, those of another, as two lists.
+pub fn joined(first: (&[u32], &[i32]), second: (&[u32], &[i32])) -> (Vec<u32>, Vec<i32>) {
+    ([first.0, second.0].concat(), [first.1, second.1].concat())
+}
+
+/// What comes of two journals joined, each of two equal lists, by what comes of them in turn: of the first if it is
+/// refused, and else of the second over the list that the first made. 1 and 3 are said of the list, 25 of the lines of
+/// both, and 26 of any line before 27: of a line of the second too, where the first breaks a bound.
+pub fn if_joined<T>(in_turn: Result<T, u32>, lines: usize, second_outside: bool) -> Result<T, u32> {
+    match in_turn {
+        Err(1 | 3) => in_turn,
+        _ if lines > MOST_LINES => Err(25),
+        Err(27) if second_outside => Err(26),
+        _ => in_turn,
+    }
+}
+
+/// The lines in reverse order with every change negated; none if a change has no negation in 32 bits.
+pub fn backward(entries: &[u32], changes: &[i32]) -> Option<(Vec<u32>, Vec<i32>)> {
+    let negated: Option<Vec<i32>> = changes.iter().rev().map(|change| change.checked_neg()).collect();
+    Some((entries.iter().rev().copied().collect(), negated?))
 }

@@ -1,4 +1,4 @@
-//! A reference for document 01 with requests (i), (ii) and (iv) to (vii) of document 02, written from
+//! A reference for document 01 with requests (i), (ii) and (iv) to (viii) of document 02, written from
 //! their text and meant to be read beside it, and the comparison of another program with it.
 
 // The sections of document 01.
@@ -12,7 +12,7 @@ pub mod list;
 pub mod sheet;
 pub mod words;
 
-// Requests (i), (ii) and (vii) of document 02.
+// Requests (i), (ii), (vii) and (viii) of document 02.
 pub mod journal;
 pub mod search;
 pub mod worksheet;

@@ -34,9 +34,11 @@ const BELOW: &str = "replay: a frequency below 0";
 const ABOVE: &str = "replay: the sum above its limit";
 const TWO_FAULTS: &str = "replay: two faults at once";
 const MOVED: &str = "replay: what each frequency and the sum moved by";
+const JOINED: &str = "replay: two journals one after the other, and joined";
+const BACKWARDS: &str = "replay: backwards brings the list back";
 
 /// A group that must find a fault, whichever others do.
-const FOUND_BY: [(Fault, &str); 22] = [
+const FOUND_BY: [(Fault, &str); 43] = [
     (Fault::ClassHigherWithinQ, WHOLES),
     (Fault::ClassLowerWithinQ, WHOLES),
     (Fault::TotalHighestWithinQ, WHOLES),
@@ -59,6 +61,28 @@ const FOUND_BY: [(Fault, &str); 22] = [
     (Fault::ListNotWritten, MOVED),
     (Fault::LastLineLeftOut, MOVED),
     (Fault::OldSumAnswered, MOVED),
+    (Fault::SumTestedAtTheEnd, JOINED),
+    (Fault::FrequenciesTestedAtTheEnd, JOINED),
+    (Fault::BoundsTestedAtTheEnd, JOINED),
+    (Fault::LinesBackwards, JOINED),
+    (Fault::MostLinesRefused, JOINED),
+    (Fault::OneLineTooManyTaken, JOINED),
+    (Fault::EmptyJournalRefused, JOINED),
+    (Fault::LastEntryNotTested, JOINED),
+    (Fault::BoundsBefore26, JOINED),
+    (Fault::FirstFaultyLineNamed, JOINED),
+    (Fault::LinesBefore27Kept, JOINED),
+    (Fault::OldSumAnswered, JOINED),
+    (Fault::ListNotWritten, BACKWARDS),
+    (Fault::ChangesUnsigned, BACKWARDS),
+    (Fault::LastLineLeftOut, BACKWARDS),
+    (Fault::FrequenciesStopAt0, BACKWARDS),
+    (Fault::BelowZeroTaken, BACKWARDS),
+    (Fault::ZeroTakenForBelow, BACKWARDS),
+    (Fault::LimitOneTooLow, BACKWARDS),
+    (Fault::OldSumAnswered, BACKWARDS),
+    // It takes a change that has no negation.
+    (Fault::EntryAtTheLengthTaken, BACKWARDS),
 ];
 
 /// Fails unless a fault is found in its call and nowhere else.

@@ -1,26 +1,17 @@
 //! What request (vii) of document 02 makes of a journal, in numbers.
 
+#[path = "common/replayed.rs"]
+mod replayed;
+
 use reference::generate::journals::{
     every_journal, good_journal, random_journal, Journal, Line, EXTREME_CHANGES, FAULTS,
 };
 use reference::generate::lists::{list, some_list, KINDS};
 use reference::generate::Random;
-use reference::journal::{replay_journal, Way, MOST_LINES, WAYS};
+use reference::journal::{Way, MOST_LINES, WAYS};
 use reference::list::{count, COUNT_LIMIT, MOST_ENTRIES};
+use replayed::replayed;
 use std::collections::BTreeSet;
-
-/// What is answered, which is the sum of the list afterwards, and that list. Refused, it must be as it was.
-fn replayed(way: Way, journal: &Journal) -> Result<Vec<u32>, u32> {
-    let mut list = journal.frequencies.clone();
-    match replay_journal(way, &mut list, &journal.entries, &journal.changes) {
-        Ok(sum) => assert_eq!(u64::from(sum), count(&list), "the sum of the list"),
-        Err(refusal) => {
-            assert_eq!(list, journal.frequencies, "the list stays");
-            return Err(refusal);
-        }
-    }
-    Ok(list)
-}
 
 fn refusal(journal: &Journal) -> Option<u32> {
     replayed(Way::Incremental, journal).err()

@@ -3,7 +3,8 @@
 //! 01's missteps; those about a zero, about 0 and about the 1 are missteps of request (iv), those
 //! about eight and nine, each of them in one call at a time, of request (v), those about running totals,
 //! places, answers and worksheets of request (i), those about searches, their number of ranges and
-//! their order of request (ii), and those about journals, their lines and bounds of request (vii).
+//! their order of request (ii), and those about journals, their lines and bounds of request (vii), many
+//! of which break what request (viii) says too.
 //! Histograms whose classes or totals are others within q are accepted, but do not keep to request (vi),
 //! nor does an estimate by classes that are too low.
 

@@ -23,6 +23,9 @@ const MOST_LOOKED_AT: usize = 2_000;
 /// How many letters of an input or an answer are shown.
 const LETTERS: usize = 500;
 
+/// The answer of a call that replays a journal, and what it left of the list.
+pub(super) type Left = (QhReplayed, Vec<u32>);
+
 /// As many words as the builder writes at the most.
 pub(super) fn most_words(frequencies: &[u32]) -> usize {
     HEADS + PER_BUCKET * frequencies.len().div_ceil(8)
@@ -240,8 +243,8 @@ impl Comparison<'_> {
     }
 
     /// Compares what a journal makes of the list that is lent, and whether its own lists stay as they were; then tests
-    /// what the other program made of it.
-    pub(super) fn replay(&mut self, group: Group, journal: &Journal) {
+    /// what the other program made of it, and hands it back.
+    pub(super) fn replay(&mut self, group: Group, journal: &Journal) -> Left {
         let Journal { frequencies, entries, changes } = journal;
         let length = frequencies.len();
         let call = |program: &dyn Program, list: &mut [u32]| {
@@ -251,7 +254,8 @@ impl Comparison<'_> {
         };
         let input = || shown_journal(journal);
         let contents = [&frequencies[..], &lent_words(0)].concat();
-        let [((expected, ..), _), ((got, ..), others)] = self.lent(group, REFERENCE, contents, call, input);
+        let [((expected, ..), _), ((got, ..), mut others)] = self.lent(group, REFERENCE, contents, call, input);
+        others.truncate(length);
         self.counts.journals += 1;
         self.met(group, expected.refusal);
         if expected.refusal == 0 {
@@ -262,8 +266,12 @@ impl Comparison<'_> {
             self.replay_ways_agree(journal);
         }
         if got.refusal == 0 {
-            self.moved(journal, got, &others[..length]);
+            self.moved(journal, got, &others);
+            self.backwards(journal, &others);
         }
+        let left = (got, others);
+        self.cut_by_turns(journal, &left);
+        left
     }
 
     fn replay_ways_agree(&mut self, journal: &Journal) {

@@ -17,7 +17,7 @@ use std::collections::BTreeMap;
 pub(super) type Outcomes = BTreeMap<(usize, u32), u64>;
 
 /// What each group is to meet; it means little without.
-const TO_MEET: [(Group, &[u32]); 13] = [
+const TO_MEET: [(Group, &[u32]); 14] = [
     (ReplayGood, &[0]),
     (ReplayBeside, &[0, 27]),
     (ReplayLarge, &[0, 1, 3, 25, 26, 27]),
@@ -31,6 +31,7 @@ const TO_MEET: [(Group, &[u32]); 13] = [
     (ReplayBelow, &[27]),
     (ReplayAbove, &[27]),
     (ReplayTwoFaults, &[1, 3, 25, 26]),
+    (ReplayPairs, &[0, 26, 27]),
 ];
 
 /// What is made of a good journal; most of it is refused.
@@ -79,6 +80,7 @@ impl Comparison<'_> {
             let journal = random_journal(&mut random);
             self.replay(ReplayRandom, &journal);
         }
+        self.pairs_of_journals();
         self.every_outcome_is_met();
     }
 
@@ -149,10 +151,12 @@ impl Comparison<'_> {
     fn every_journal_of(&mut self, frequencies: &[u32]) {
         self.counts.lists += 1;
         for journal in every_journal(frequencies, &SMALL_CHANGES, self.volume.lines) {
-            self.replay(ReplayFew, &journal);
+            let whole = self.replay(ReplayFew, &journal);
+            self.cut_everywhere(&journal, &whole);
         }
         for journal in every_journal(frequencies, &EXTREME_CHANGES, self.volume.lines - 1) {
-            self.replay(ReplayExtreme, &journal);
+            let whole = self.replay(ReplayExtreme, &journal);
+            self.cut_everywhere(&journal, &whole);
         }
     }
 

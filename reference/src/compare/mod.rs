@@ -1,5 +1,6 @@
 //! Runs the reference and another program on the same inputs and compares every answer.
 
+mod adding_up;
 mod calls;
 mod coding;
 mod directed;
@@ -19,6 +20,7 @@ use crate::generate::journals::FAULTS;
 use crate::generate::slips::LAST_QD;
 use crate::generate::Random;
 use crate::program::Program;
+use adding_up::PairOutcomes;
 use factors::{no_largests, Largests};
 use journals::Outcomes;
 use sharper::{Mosts, Own};
@@ -136,6 +138,9 @@ groups! {
     ReplayAbove: "replay: the sum above its limit",
     ReplayTwoFaults: "replay: two faults at once",
     ReplayMoved: "replay: what each frequency and the sum moved by",
+    ReplayPairs: "replay: pairs of journals",
+    ReplayJoined: "replay: two journals one after the other, and joined",
+    ReplayBackwards: "replay: backwards brings the list back",
     SheetGood: "sheet: good input",
     SheetDamaged: "sheet: damaged input",
     SheetSlips: "sheet: q about 8",
@@ -254,6 +259,8 @@ struct Counts {
     journals: u64,
     replayed: u64,
     lines: u64,
+    pairs: u64,
+    backwards: u64,
     ranges: u64,
     sums: u64,
     mismatches: u64,
@@ -276,6 +283,7 @@ pub struct Comparison<'a> {
     own: Option<Rc<Own>>,
     most: Mosts,
     outcomes: Outcomes,
+    pair_outcomes: PairOutcomes,
     tallies: Vec<Tally>,
     /// What the bytes lent for a sheet hold before the call.
     sheet_contents: Vec<u8>,
@@ -303,6 +311,7 @@ impl<'a> Comparison<'a> {
             own: None,
             most: Mosts::default(),
             outcomes: Outcomes::default(),
+            pair_outcomes: PairOutcomes::default(),
             tallies: vec![Tally::default(); GROUPS.len()],
             sheet_contents: calls::sheet_contents(),
             out,
@@ -395,12 +404,13 @@ impl<'a> Comparison<'a> {
         let Counts { lists, built, foreign, damaged, random, .. } = self.counts;
         let Counts { accepted, estimates, ranges, sums, mismatches, .. } = self.counts;
         let Counts { worksheets, answers, searches, summed, .. } = self.counts;
-        let Counts { journals, replayed, lines, .. } = self.counts;
+        let Counts { journals, replayed, lines, pairs, backwards, .. } = self.counts;
         self.show(&format!("{lists} lists"));
         self.show(&format!("histograms: {built} built, {foreign} foreign, {damaged} damaged, {random} random"));
         self.show(&format!("{estimates} estimates, {accepted} accepted pairs with {ranges} ranges and {sums} sums"));
         self.show(&format!("{worksheets} worksheets with {answers} answers, {searches} searches with {summed} summed"));
         self.show(&format!("{journals} journals, {replayed} of them replayed, with {lines} lines"));
+        self.show(&format!("{pairs} pairs of journals in turn and joined, {backwards} journals backwards"));
         self.show(&format!("{mismatches} mismatches, seed {}", self.seed));
     }
 }

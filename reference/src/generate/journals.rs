@@ -1,8 +1,9 @@
 //! Journals, good ones and such as are refused.
 
 use super::{every_list, some_places, Random};
-use crate::journal::MOST_LINES;
+use crate::journal::{joined, MOST_LINES};
 use crate::list::{count, COUNT_LIMIT, MOST_ENTRIES};
+use std::slice::from_ref;
 
 /// What the call is given.
 #[derive(Clone, Debug)]
@@ -29,6 +30,9 @@ pub const FAULTS: [(u32, Faults); 8] = [
     (1, Journal::of_too_many_entries),
     (25, Journal::of_too_many_lines),
 ];
+
+/// The sorts of which a line is the fault.
+const FAULTY_LINES: [Faults; 3] = [Journal::outside, Journal::below_zero, Journal::above_the_limit];
 
 const LIMIT: i32 = COUNT_LIMIT as i32;
 
@@ -74,6 +78,25 @@ pub fn good_journal(random: &mut Random, frequencies: &[u32], number: usize) -> 
         journal.changes.push(change);
     }
     journal
+}
+
+/// Two journals with so many lines each, the second for what the first makes of a list: as they are, and either or both
+/// with a faulty line of each sort. Then the first with itself, and with another one that is made for the same list.
+pub fn pairs(random: &mut Random, frequencies: &[u32], number: usize) -> Vec<[Journal; 2]> {
+    let first = good_journal(random, frequencies, number);
+    let second = good_journal(random, &first.after(), number);
+    let other = good_journal(random, frequencies, number);
+    let [firsts, seconds] = [&first, &second].map(|good| {
+        let faulty = FAULTY_LINES.map(|faults| {
+            let mut all = faults(good);
+            all.swap_remove(random.place(&all))
+        });
+        [from_ref(good), &faulty].concat()
+    });
+    let mut pairs: Vec<[Journal; 2]> =
+        firsts.iter().flat_map(|first| seconds.iter().map(|second| [first.clone(), second.clone()])).collect();
+    pairs.extend([[first.clone(), first.clone()], [first, other]]);
+    pairs
 }
 
 /// Every journal of up to so many lines with these changes, on a list and at the first entry outside it.
@@ -123,12 +146,29 @@ impl Journal {
         Journal { frequencies: frequencies.to_vec(), entries, changes }
     }
 
-    fn number(&self) -> usize {
+    pub fn number(&self) -> usize {
         self.entries.len()
     }
 
     fn last(&self) -> Option<Line> {
         Some((*self.entries.last()?, *self.changes.last()?))
+    }
+
+    /// The same lines over another list.
+    pub fn over(&self, frequencies: &[u32]) -> Journal {
+        Journal { frequencies: frequencies.to_vec(), ..self.clone() }
+    }
+
+    /// With the lines of another after its own.
+    pub fn joined(&self, second: &Journal) -> Journal {
+        let (entries, changes) = joined((&self.entries, &self.changes), (&second.entries, &second.changes));
+        Journal { frequencies: self.frequencies.clone(), entries, changes }
+    }
+
+    /// Where it is cut in two: at both ends, one line from them and in the middle.
+    pub fn cuts(&self) -> [usize; 5] {
+        let number = self.number();
+        [0, 1.min(number), number / 2, number.saturating_sub(1), number]
     }
 
     fn changed(&self, change: impl FnOnce(&mut Journal)) -> Journal {
@@ -163,13 +203,24 @@ impl Journal {
         [frequency.saturating_sub(1), frequency + 1].map(|other| self.changed(|it| it.frequencies[entry] = other))
     }
 
-    /// Before a place in a good journal: an entry, its frequency, and by how much the sum may grow. For the first place
-    /// it is the first entry, and for the last the last.
-    fn before(&self, place: usize) -> (u32, i32, i32) {
+    /// What the lines of a good journal before a place make of the list.
+    fn after_lines(&self, place: usize) -> Vec<i32> {
         let mut after: Vec<i32> = self.frequencies.iter().map(|&frequency| frequency as i32).collect();
         for (&entry, change) in self.entries.iter().zip(&self.changes).take(place) {
             after[entry as usize] += change;
         }
+        after
+    }
+
+    /// What a good journal makes of the list.
+    pub fn after(&self) -> Vec<u32> {
+        self.after_lines(self.number()).into_iter().map(|frequency| frequency as u32).collect()
+    }
+
+    /// Before a place in a good journal: an entry, its frequency, and by how much the sum may grow. For the first place
+    /// it is the first entry, and for the last the last.
+    fn before(&self, place: usize) -> (u32, i32, i32) {
+        let after = self.after_lines(place);
         let entry = (after.len() - 1) * place / self.number().max(1);
         (entry as u32, after[entry], LIMIT - after.iter().sum::<i32>())
     }
