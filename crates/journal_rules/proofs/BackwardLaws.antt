@@ -12,6 +12,7 @@ use lib.IntN.{ℤ, pos, negsuc, negℤ, natAbs, _+ℤ_, negℤ-negℤ, +ℤ-neg�
 use lib.ListN.{length, set}
 use lib.Seq.{getD-set-same, set-set, set-getD}
 use Rattle.laws.specs.Each.{each}
+use Rattle.laws.proofs.EachLaws.{each-first}
 use Rattle.laws.proofs.Tests.{both, both-left, both-right}
 use Rattle.counts_rules.specs.Limit.{limit}
 use Rattle.journal_rules.specs.Lines.{frequencyAt, changeAt, afterLine}
@@ -32,11 +33,6 @@ line-undone zs e c h =
 abbrev allOf : (ℤ → Bool) → List ℤ → Bool
 allOf p [] = true
 allOf p (c ∷ cs) = p c && allOf p cs
-
-each-first : (n : ℕ) (p : ℕ → Bool) → each (suc n) p ≡ (p 0 && each n (λ i. p (suc i)))
-unfolding each
-each-first zero p = sym (and-true (p 0))
-each-first (suc n) p = ap (λ (t : Bool). t && p (suc n)) (each-first n p) ∙ and-assoc (p 0) (each n (λ i. p (suc i))) (p (suc n))
 
 each-change : (p : ℤ → Bool) (cs : List ℤ) → each (length cs) (λ i. p (changeAt cs i)) ≡ allOf p cs
 unfolding each

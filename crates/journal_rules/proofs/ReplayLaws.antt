@@ -46,7 +46,7 @@ pub some-entry : (fs : List ℕ) → listFault fs ≡ 0 → 0 < length fs
 unfolding numbered entriesFault
 some-entry fs e = within 1 maxEntries (length fs) (not-false _ (none-true (listSentences fs) refl e .0)) .least
 
--- the number of lines that 25 does not refuse, by the tests of 26 and 27
+-- the refusal of lines that 25 does not name, by the tests of 26 and 27
 abbrev pub lineNumber : Bool → Bool → ℕ
 lineNumber outside bound = cond outside 26 (cond bound 27 0)
 

@@ -91,8 +91,9 @@ idle n = record { entries = replicate n 0; changes = replicate n (pos 0) }
 pub record Joining : Type 0 where
   -- "the joined one is accepted exactly then"
   pub joined-accepted : (fs : List ℕ) (a b : Journal) → Joinable a b → inTurnFault fs a b ≡ 0 → faultOf fs (joined a b) ≡ 0
-  pub in-turn-equal : (fs : List ℕ) (a b : Journal) → inTurnFault fs a b ≡ 0 → EqualLists a × EqualLists b
   pub accepted-in-turn : (fs : List ℕ) (a b : Journal) → EqualLists a → EqualLists b → faultOf fs (joined a b) ≡ 0 → Joinable a b × (inTurnFault fs a b ≡ 0)
+  -- journals that are accepted one after the other are of equal lists
+  pub in-turn-equal : (fs : List ℕ) (a b : Journal) → inTurnFault fs a b ≡ 0 → EqualLists a × EqualLists b
   -- the two then "act as the joined journal": the list afterwards is the same, and so is the last reply
   pub same-list : (fs : List ℕ) (a b : Journal) → Joinable a b → inTurnFault fs a b ≡ 0 → listAfter (listAfter fs a) b ≡ listAfter fs (joined a b)
   pub same-reply : (fs : List ℕ) (a b : Journal) → Joinable a b → inTurnFault fs a b ≡ 0 → replyOf (listAfter fs a) b ≡ replyOf fs (joined a b)
@@ -100,9 +101,9 @@ pub record Joining : Type 0 where
   pub joined-number : (fs : List ℕ) (a b : Journal) → Joinable a b → faultOf fs (joined a b) ≡ joinedFault fs a b
   -- the same of more than two, as the journals of the weeks of a month
   pub all-joined-accepted : (fs : List ℕ) (a : Journal) (bs : List Journal) → AllJoinable a bs → allInTurnFault fs a bs ≡ 0 → faultOf fs (joinedAll a bs) ≡ 0
-  pub all-in-turn-equal : (fs : List ℕ) (a : Journal) (bs : List Journal) → allInTurnFault fs a bs ≡ 0 → AllEqual a bs
   pub all-accepted-in-turn : (fs : List ℕ) (a : Journal) (bs : List Journal) → AllEqual a bs → faultOf fs (joinedAll a bs) ≡ 0
       → AllJoinable a bs × (allInTurnFault fs a bs ≡ 0)
+  pub all-in-turn-equal : (fs : List ℕ) (a : Journal) (bs : List Journal) → allInTurnFault fs a bs ≡ 0 → AllEqual a bs
   pub all-same-list : (fs : List ℕ) (a : Journal) (bs : List Journal) → AllJoinable a bs → allInTurnFault fs a bs ≡ 0
       → listAfterAll fs a bs ≡ listAfter fs (joinedAll a bs)
   -- the line limit is needed: beyond it journals that change nothing are accepted one after the other, and refused when joined

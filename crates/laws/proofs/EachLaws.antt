@@ -58,7 +58,7 @@ pub some-same : (n : ℕ) (p q : ℕ → Bool) → ((i : ℕ) → i < n → p i 
 unfolding some
 some-same n p q h = ap not (each-same n (λ i. not (p i)) (λ i. not (q i)) (λ i l. ap not (h i l)))
 
--- of the first m numbers, or of the n after them
+-- the first m numbers and the n after them, or the first and the n after it
 
 each-add : (m n : ℕ) (p : ℕ → Bool) → each (m + n) p ≡ (each m p && each n (λ i. p (m + i)))
 unfolding each
@@ -67,6 +67,11 @@ each-add m (suc n) p =
     ap (λ (k : ℕ). each k p) (add-suc m n)
     ∙ ap (λ (t : Bool). t && p (m + n)) (each-add m n p)
     ∙ and-assoc (each m p) (each n (λ i. p (m + i))) (p (m + n))
+
+pub each-first : (n : ℕ) (p : ℕ → Bool) → each (suc n) p ≡ (p 0 && each n (λ i. p (suc i)))
+unfolding each
+each-first zero p = sym (and-true (p 0))
+each-first (suc n) p = ap (λ (t : Bool). t && p (suc n)) (each-first n p) ∙ and-assoc (p 0) (each n (λ i. p (suc i))) (p (suc n))
 
 pub some-add : (m n : ℕ) (p : ℕ → Bool) → some (m + n) p ≡ (some m p || some n (λ i. p (m + i)))
 unfolding some
