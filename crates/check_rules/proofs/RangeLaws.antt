@@ -43,17 +43,17 @@ accepted-good false f e = absurd (not-accepted e)
 
 -- a good range fits, and the whole bucketlet meets the second half
 module _ (q : Quality) (f n s w : ℕ) where
-  good-fits : countGood q f n s w ≡ true → fits q f (n * s) w ≡ true
+  pub good-fits : countGood q f n s w ≡ true → fits q f (n * s) w ≡ true
   good-fits t = go (eqb n w) t
     where
       go : (b : Bool) → cond b (near q f (n * s) w) (fits q f (n * s) w) ≡ true → fits q f (n * s) w ≡ true
       go true t = near-fits q f (n * s) w (near-says q f (n * s) w t)
       go false t = t
 
-  whole-near : n ≡ w → countGood q f n s w ≡ true → near q f (n * s) w ≡ true
+  pub whole-near : n ≡ w → countGood q f n s w ≡ true → near q f (n * s) w ≡ true
   whole-near e t = sym (ap (λ (b : Bool). cond b (near q f (n * s) w) (fits q f (n * s) w)) (eq-eqb n w e)) ∙ t
 
-  is-good : fits q f (n * s) w ≡ true → (n ≡ w → near q f (n * s) w ≡ true) → countGood q f n s w ≡ true
+  pub is-good : fits q f (n * s) w ≡ true → (n ≡ w → near q f (n * s) w ≡ true) → countGood q f n s w ≡ true
   is-good h g = go (eqb n w) refl
     where
       go : (b : Bool) → eqb n w ≡ b → cond b (near q f (n * s) w) (fits q f (n * s) w) ≡ true

@@ -1,5 +1,6 @@
 // What fails first in a bucket.
 
+use super::range::count_of;
 use super::range::first_failing;
 use super::range::is_near;
 use check_rules::Failing;
@@ -8,27 +9,11 @@ use check_rules::Verdict;
 use counts::Meaning;
 use list_rules::Quality;
 ghost use mathlib.Core.Path.{_≡_};
-ghost use Prim.Native.Nat.{_+_, _≤_};
-ghost use lib.ListN.{length};
-ghost use Rattle.laws.specs.Sums.{sum, partSum};
-ghost use Rattle.counts_rules.specs.Limit.{limit};
 ghost use Rattle.counts_rules.specs.Form.{base};
 ghost use Rattle.counts_rules.specs.Class.{classNumber};
 ghost use Rattle.check_rules.specs.Failing.{bucketletVerdict};
 ghost use Rattle.check_rules.specs.Checking.{totalVerdict, bucketVerdict};
 ghost use Rattle.checker.specs.Private.Searching.{Classed, Totalled, Bucketed};
-
-// The true count of n entries from a on.
-fn count_of(freqs: &[u32], a: usize, n: usize) -> u64
-    requires { ⌜ (a + n ≤ length (now freqs)) × (sum (now freqs) ≤ limit) ⌝ }
-    ensures { λ r. ⌜ r ≡ partSum a n (now (freqs .entry)) ⌝ }
-{
-    let mut count: u64 = 0;
-    for i in 0..n {
-        count += freqs[a + i] as u64;
-    }
-    count
-}
 
 // What fails first of a bucketlet, given by its class. One of width 0 is empty and has no range.
 fn bucketlet_verdict(freqs: &[u32], q: Quality, a: usize, w: usize, class: u32) -> Verdict

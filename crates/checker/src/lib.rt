@@ -1,5 +1,6 @@
 // The checker: whether a histogram is accepted for a frequency list, and else what fails first.
 
+mod bound;
 mod bucket;
 mod range;
 

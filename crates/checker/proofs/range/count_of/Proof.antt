@@ -1,12 +1,12 @@
--- `checker::bucket::count_of` meets its contract. At the loop the count is that of the first i entries.
+-- `checker::range::count_of` meets its contract. At the loop the count is that of the first i entries.
 -- Assumes nothing.
 use mathlib.Core.Path.{refl}
 use Prim.Native.Nat.{_+_, _-_}
 use native.Mathlib.Omega.{arith}
 use borrow.Author.Needs.{needs}
 use Rattle.laws.proofs.SumsLaws.{Added, none-added, one-added, all-added, added-le}
-use Rattle.checker.proofs.bucket.count_of.Statement.{statement}
-use Rattle.checker.proofs.bucket.count_of.Tie as tie
+use Rattle.checker.proofs.range.count_of.Statement.{statement}
+use Rattle.checker.proofs.range.count_of.Tie as tie
 
 abbrev Inv-loop : tie.InvT-loop
 Inv-loop freqs a n count₀ i₀ count i = Added a n freqs i count
