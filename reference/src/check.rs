@@ -1,8 +1,9 @@
-//! "Asking", the checker: every pair of ends of every bucketlet, then the totals.
+//! "Asking", the checker: the ranges of every bucketlet, by two ways that must agree, then the totals.
 
 use crate::coding::{class_number, code_number};
-use crate::fits::{first_failing, Failing, Sort};
+use crate::fits::{self, Failing, Sort};
 use crate::list::{count, list_fault, Bound};
+use crate::pass;
 use crate::words::{read, Histogram};
 
 #[derive(Clone, Copy, Debug, PartialEq, Eq)]
@@ -11,10 +12,28 @@ pub enum Verdict {
     Fails { sort: Sort, start: u32, end: u32 },
 }
 
-/// Refusals 1 and 3, those of reading, then 13; then what fails first.
+/// How the first failing range of a bucketlet is found.
+#[derive(Clone, Copy, Debug, PartialEq, Eq)]
+pub enum Way {
+    /// Straight from the rule: every pair of ends.
+    EveryPair,
+    /// By a pass from the right that finds its start.
+    Pass,
+}
+
+pub const WAYS: [Way; 2] = [Way::EveryPair, Way::Pass];
+
+/// Straight from the rule: refusals 1 and 3, those of reading, then 13; then what fails first.
 pub fn check(frequencies: &[u32], words: &[u32]) -> Result<Verdict, u32> {
+    check_by(Way::EveryPair, frequencies, words)
+}
+
+pub fn check_by(way: Way, frequencies: &[u32], words: &[u32]) -> Result<Verdict, u32> {
     let histogram = readable(frequencies, words)?;
-    Ok(verdict(frequencies, &histogram, first_failing))
+    Ok(match way {
+        Way::EveryPair => verdict(frequencies, &histogram, fits::first_failing),
+        Way::Pass => verdict(frequencies, &histogram, pass::first_failing),
+    })
 }
 
 pub fn readable(frequencies: &[u32], words: &[u32]) -> Result<Histogram, u32> {

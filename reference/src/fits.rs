@@ -29,23 +29,25 @@ pub enum Sort {
 /// A range of a bucketlet, counted from its start, and its sort.
 pub type Failing = (usize, usize, Sort);
 
-/// The first range of a bucketlet that fails, by start and then by end. The whole bucketlet
-/// must lie within q; theta does not excuse it.
-pub fn first_failing(part: &[u32], s: u64, bound: Bound) -> Option<Failing> {
+/// The first range from a start that fails. The whole bucketlet must lie within q; theta does not excuse it.
+pub fn first_end(part: &[u32], start: usize, s: u64, bound: Bound) -> Option<Failing> {
     let w = part.len();
-    for start in 0..w {
-        let mut f = 0;
-        for end in start + 1..=w {
-            f += u64::from(part[end - 1]);
-            let n = (end - start) as u64;
-            if n == w as u64 {
-                if !bound.within_q(f, s) {
-                    return Some((start, end, Sort::Bucketlet));
-                }
-            } else if !bound.fits(f, n, s, w as u64) {
-                return Some((start, end, Sort::Part));
+    let mut f = 0;
+    for end in start + 1..=w {
+        f += u64::from(part[end - 1]);
+        let n = (end - start) as u64;
+        if n == w as u64 {
+            if !bound.within_q(f, s) {
+                return Some((start, end, Sort::Bucketlet));
             }
+        } else if !bound.fits(f, n, s, w as u64) {
+            return Some((start, end, Sort::Part));
         }
     }
     None
+}
+
+/// The first range of a bucketlet that fails, by start and then by end: every pair of ends is tried.
+pub fn first_failing(part: &[u32], s: u64, bound: Bound) -> Option<Failing> {
+    (0..part.len()).find_map(|start| first_end(part, start, s, bound))
 }

@@ -1,5 +1,5 @@
-//! A reference for document 01 with requests (i), (ii) and (iv) to (viii) of document 02, written from
-//! their text and meant to be read beside it, and the comparison of another program with it.
+//! A reference for document 01 with requests (i), (ii), (iv) to (viii) and (xiii) of document 02, written
+//! from their text and meant to be read beside it, and the comparison of another program with it.
 
 // The sections of document 01.
 pub mod big;
@@ -12,8 +12,9 @@ pub mod list;
 pub mod sheet;
 pub mod words;
 
-// Requests (i), (ii), (vii) and (viii) of document 02.
+// Requests (i), (ii), (vii), (viii) and (xiii) of document 02.
 pub mod journal;
+pub mod pass;
 pub mod search;
 pub mod worksheet;
 

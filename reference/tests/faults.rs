@@ -10,6 +10,7 @@ type Run = fn(&mut Comparison) -> bool;
 
 const ALL: Run = |comparison| comparison.run();
 const JOURNALS: Run = |comparison| comparison.run_journals();
+const PASSES: Run = |comparison| comparison.run_passes();
 
 /// Whether a program passes, and what is printed.
 fn compared(program: &dyn Program, run: Run) -> (bool, String) {
@@ -28,6 +29,8 @@ fn a_right_program_passes() {
     }
 }
 
+const NEAR: &str = "check: bucketlets up to theta or q";
+const BEYOND: &str = "check: bucketlets a hair beyond";
 const WHOLES: &str = "build: whole bucketlets and buckets within 5/4";
 const GOOD: &str = "replay: good journals, and up to either bound";
 const BELOW: &str = "replay: a frequency below 0";
@@ -38,7 +41,25 @@ const JOINED: &str = "replay: two journals one after the other, and joined";
 const BACKWARDS: &str = "replay: backwards brings the list back";
 
 /// A group that must find a fault, whichever others do.
-const FOUND_BY: [(Fault, &str); 43] = [
+const FOUND_BY: [(Fault, &str); 61] = [
+    (Fault::FirstStartLeftOut, BEYOND),
+    (Fault::LastStartLeftOut, BEYOND),
+    (Fault::FirstStartMetNamed, BEYOND),
+    (Fault::LastEndNamed, BEYOND),
+    (Fault::LastEndLeftOut, BEYOND),
+    (Fault::OnlyCountsAboveTheta, BEYOND),
+    (Fault::OnlyEstimatesAboveTheta, BEYOND),
+    (Fault::FirstEndPastThetaMissed, BEYOND),
+    (Fault::EndAtThetaTaken, NEAR),
+    (Fault::EndsBeforeForgotten, BEYOND),
+    (Fault::GreatestNotKept, BEYOND),
+    (Fault::EqualityFails, NEAR),
+    (Fault::EqualityOfTheWholeFails, NEAR),
+    (Fault::WholePassedOver, BEYOND),
+    (Fault::LaterStartBeforeTheWhole, BEYOND),
+    (Fault::ThetaNotTimesTheWidth, BEYOND),
+    (Fault::ProductsIn32Bits, BEYOND),
+    (Fault::NarrowOnesPassedOver, BEYOND),
     (Fault::ClassHigherWithinQ, WHOLES),
     (Fault::ClassLowerWithinQ, WHOLES),
     (Fault::TotalHighestWithinQ, WHOLES),
@@ -87,9 +108,16 @@ const FOUND_BY: [(Fault, &str); 43] = [
 
 /// Fails unless a fault is found in its call and nowhere else.
 fn expect_found(fault: Fault, call: &'static str) {
-    // One part replays all journals: that such a fault shows nowhere else is seen of the one that refuses all.
-    let all = call != "replay" || fault == Fault::JournalsRefused;
-    let (passed, out) = compared(&Broken { fault, call }, if all { ALL } else { JOURNALS });
+    let broken = Broken { fault, call };
+    // One part replays all journals: that such a fault shows nowhere else is seen of the one that refuses all. One part
+    // is aimed at faults of a pass: that those of a checker show nowhere else is seen of the others.
+    let (all, run) = match fault {
+        Fault::JournalsRefused => (true, ALL),
+        _ if call == "replay" => (false, JOURNALS),
+        _ if broken.is_of_a_pass() => (false, PASSES),
+        _ => (true, ALL),
+    };
+    let (passed, out) = compared(&broken, run);
     assert!(!passed, "{fault:?} in {call} was not found");
     assert!(!out.ends_with(" 0 failed\n"), "{fault:?} in {call}: {out}");
     let ran = |line: &&str| all || !line.ends_with(": 0, 0 mismatches");

@@ -30,10 +30,10 @@ impl<'a> Row<'a> {
         Row { cells, sides, shortest, calls }
     }
 
-    fn pass(&mut self) {
+    fn pass(&mut self, least_rounds: u32, least_time: Duration) {
         let begun = Instant::now();
         let mut rounds = 0;
-        while rounds < ROUNDS || begun.elapsed() < LEAST_TIME {
+        while rounds < least_rounds || begun.elapsed() < least_time {
             rounds += 1;
             for (run, shortest) in self.sides.iter_mut().zip(&mut self.shortest) {
                 *shortest = run().min(*shortest);
@@ -48,8 +48,13 @@ impl<'a> Row<'a> {
 }
 
 pub fn measure(rows: &mut [Row]) {
+    measure_for(rows, ROUNDS, LEAST_TIME);
+}
+
+/// The same with other rounds and another time of a row in a pass.
+pub fn measure_for(rows: &mut [Row], least_rounds: u32, least_time: Duration) {
     for _ in 0..PASSES {
-        rows.iter_mut().for_each(Row::pass);
+        rows.iter_mut().for_each(|row| row.pass(least_rounds, least_time));
     }
 }
 

@@ -1,4 +1,4 @@
-//! Times of the proved calls beside the same algorithms in Rust.
+//! Times of the proved calls beside the same algorithms in Rust; `checks`, `worksheets` and `journals` have the others.
 
 use super::clock::{measure, ratio, shown, timed, Row, Run, PASSES, ROUNDS};
 use super::lists::{ranges, restless, List};
@@ -126,15 +126,6 @@ fn build<'a>(proved: &'a dyn Program, case: &'a Case) -> Row<'a> {
     Row::new(case.cells("build", "the lent words"), vec![run(proved), run(&PEER), run(&FIGURE_6)], 1)
 }
 
-fn check<'a>(proved: &'a dyn Program, case: &'a Case) -> Row<'a> {
-    let run = |program: &'a dyn Program| -> Run<'a> {
-        let (frequencies, words) = (&case.list.frequencies, &case.words);
-        assert_eq!(program.check(frequencies, words).accepted, 1, "the histogram is accepted");
-        Box::new(move || timed(|| program.check(frequencies, words)))
-    };
-    Row::new(case.cells("check", NOTHING), vec![run(proved), run(&PEER)], 1)
-}
-
 /// A question to a histogram.
 type Ask<Q> = fn(&dyn Program, &[u32], Q) -> u64;
 
@@ -217,7 +208,6 @@ pub fn print<P: Program>(proved: &P, lists: &[List]) {
     for place in 0..lists.len() {
         rows.extend([&small, &middle, &large].map(|cases| build(proved, &cases[place])));
     }
-    rows.extend(middle.iter().map(|case| check(proved, case)));
     rows.extend(middle.iter().chain([&most_buckets]).map(|case| estimate(proved, case)));
     rows.push(find(proved, &most_buckets));
     measure(&mut rows);

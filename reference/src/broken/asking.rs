@@ -86,6 +86,7 @@ impl Broken {
             WholeExcused if count(part).max(s) <= bound.theta.into() => {
                 first_failing(part, s, bound).filter(|failing| failing.2 == Sort::Part)
             }
+            _ if self.is_of_a_pass() => self.passed(part, s, bound),
             _ => first_failing(part, s, bound),
         });
         Ok(match answer {

@@ -3,8 +3,9 @@
 //! 01's missteps; those about a zero, about 0 and about the 1 are missteps of request (iv), those
 //! about eight and nine, each of them in one call at a time, of request (v), those about running totals,
 //! places, answers and worksheets of request (i), those about searches, their number of ranges and
-//! their order of request (ii), and those about journals, their lines and bounds of request (vii), many
-//! of which break what request (viii) says too.
+//! their order of request (ii), those about journals, their lines and bounds of request (vii), many of
+//! which break what request (viii) says too, and those of a checker that goes over a bucketlet in one
+//! pass, from `FirstStartLeftOut` to `NarrowOnesPassedOver`, of request (xiii).
 //! Histograms whose classes or totals are others within q are accepted, but do not keep to request (vi),
 //! nor does an estimate by classes that are too low.
 
@@ -12,6 +13,7 @@ mod asking;
 mod building;
 mod journals;
 mod listing;
+mod passes;
 mod searches;
 mod slips;
 mod worksheets;
@@ -57,6 +59,24 @@ faults! {
     TotalsNotChecked: "check",
     ZeroFrequencyRefusedByChecker: "check",
     JudgedWithThe1: "check",
+    FirstStartLeftOut: "check",
+    LastStartLeftOut: "check",
+    FirstStartMetNamed: "check",
+    LastEndNamed: "check",
+    LastEndLeftOut: "check",
+    OnlyCountsAboveTheta: "check",
+    OnlyEstimatesAboveTheta: "check",
+    FirstEndPastThetaMissed: "check",
+    EndAtThetaTaken: "check",
+    EndsBeforeForgotten: "check",
+    GreatestNotKept: "check",
+    EqualityFails: "check",
+    EqualityOfTheWholeFails: "check",
+    WholePassedOver: "check",
+    LaterStartBeforeTheWhole: "check",
+    ThetaNotTimesTheWidth: "check",
+    ProductsIn32Bits: "check",
+    NarrowOnesPassedOver: "check",
     EachCutRounded: "estimate" | "answer" | "search",
     RoundedDown: "estimate" | "answer" | "search",
     SumOf0AnsweredWith0: "estimate" | "answer" | "search",

@@ -2,6 +2,7 @@
 
 use super::{Comparison, Group};
 use crate::build::{histogram, Way};
+use crate::check::{self, check_by};
 use crate::generate::journals::Journal;
 use crate::generate::searches::Search;
 use crate::generate::worksheets::Worksheet;
@@ -140,15 +141,22 @@ impl Comparison<'_> {
 
     /// Compares a check and answers whether the pair is accepted.
     pub(super) fn check(&mut self, group: Group, frequencies: &[u32], words: &[u32]) -> bool {
-        let expected = REFERENCE.check(frequencies, words);
+        self.verdict(group, frequencies, words).accepted == 1
+    }
+
+    /// Compares a check, by every pair of ends and by the reference's other way, and hands back the verdict.
+    pub(super) fn verdict(&mut self, group: Group, frequencies: &[u32], words: &[u32]) -> QhVerdict {
+        self.counts.checks += 1;
+        let [expected, passed] = check::WAYS.map(|way| check_by(way, frequencies, words).into());
         let got = self.program.check(frequencies, words);
+        let input = || format!("{} by {}", shown(frequencies), hexadecimal(words));
         let differs = expected != got;
-        let text = differs.then(|| {
-            let input = format!("{} by {}", shown(frequencies), hexadecimal(words));
-            mismatch(&input, expected, got)
-        });
+        let mut text = differs.then(|| mismatch(&input(), expected, got));
+        if expected != passed {
+            text = Some(mismatch(&format!("the reference's ways, {}", input()), expected, passed));
+        }
         self.note(group, text);
-        expected.accepted == 1
+        expected
     }
 
     pub(super) fn estimate(&mut self, group: Group, words: &[u32], (x, y): (u32, u32)) {

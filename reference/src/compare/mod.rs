@@ -7,6 +7,7 @@ mod directed;
 mod factors;
 mod journals;
 mod large;
+mod passes;
 mod searches;
 mod sharper;
 mod sheets;
@@ -23,6 +24,7 @@ use crate::program::Program;
 use adding_up::PairOutcomes;
 use factors::{no_largests, Largests};
 use journals::Outcomes;
+use passes::Marks;
 use sharper::{Mosts, Own};
 use std::io::Write;
 use std::rc::Rc;
@@ -63,6 +65,8 @@ groups! {
     CheckDirected: "check: directed lists",
     CheckZeros: "check: lists with zeros, and class 0",
     CheckSlips: "check: q about 8",
+    CheckNear: "check: bucketlets up to theta or q",
+    CheckBeyond: "check: bucketlets a hair beyond",
     EstimateBuilt: "estimate: built histograms",
     EstimateForeign: "estimate: foreign histograms",
     EstimateDamaged: "estimate: damaged words",
@@ -191,6 +195,8 @@ pub struct Volume {
     pub near: usize,
     /// How many of `KS`, from the first on, lists are directed at for several ranges.
     pub ks_of_several: usize,
+    /// How many bucketlets are aimed at a checker that does not try every pair, of each sort, width and place.
+    pub aimed: usize,
     pub sheets: usize,
     /// The last qd beside which each q about 8 is tried.
     pub last_qd: u32,
@@ -215,6 +221,7 @@ impl Volume {
         directed: 300,
         near: 60,
         ks_of_several: KS.len(),
+        aimed: 40,
         sheets: 3_000,
         last_qd: LAST_QD,
         lines: 3,
@@ -234,6 +241,7 @@ impl Volume {
         directed: 10,
         near: 1,
         ks_of_several: 1,
+        aimed: 2,
         sheets: 120,
         last_qd: 4,
         lines: 2,
@@ -241,6 +249,15 @@ impl Volume {
         sorts: FAULTS.len() - 2,
         outcomes: 2,
     };
+
+    /// Of a width: to try every pair of ends of the wide ones takes long.
+    fn aimed_of(&self, w: u64) -> usize {
+        match w {
+            0..100 => self.aimed,
+            100..1_000 => self.aimed / 10,
+            _ => self.aimed / 40,
+        }
+    }
 }
 
 #[derive(Clone, Copy, Debug, Default)]
@@ -250,6 +267,7 @@ struct Counts {
     foreign: u64,
     damaged: u64,
     random: u64,
+    checks: u64,
     accepted: u64,
     estimates: u64,
     worksheets: u64,
@@ -284,6 +302,7 @@ pub struct Comparison<'a> {
     most: Mosts,
     outcomes: Outcomes,
     pair_outcomes: PairOutcomes,
+    marks: Marks,
     tallies: Vec<Tally>,
     /// What the bytes lent for a sheet hold before the call.
     sheet_contents: Vec<u8>,
@@ -312,6 +331,7 @@ impl<'a> Comparison<'a> {
             most: Mosts::default(),
             outcomes: Outcomes::default(),
             pair_outcomes: PairOutcomes::default(),
+            marks: Marks::default(),
             tallies: vec![Tally::default(); GROUPS.len()],
             sheet_contents: calls::sheet_contents(),
             out,
@@ -331,6 +351,7 @@ impl<'a> Comparison<'a> {
         self.part("refusals of the builder", Comparison::build_refusals);
         self.part("every bit", Comparison::every_bit);
         self.part("random words", Comparison::random_words);
+        self.part("bucketlets aimed at a pass", Comparison::aimed_at_a_pass);
         self.part("directed lists", Comparison::directed_lists);
         self.part("the sharper rule", Comparison::lists_near_the_sharper_rule);
         self.part("worksheets", Comparison::worksheets);
@@ -345,6 +366,12 @@ impl<'a> Comparison<'a> {
     /// Only the part that replays journals, which no other part does. The groups of the others do not run.
     pub fn run_journals(&mut self) -> bool {
         self.part("journals", Comparison::journals);
+        self.report()
+    }
+
+    /// Only the part that is aimed at a checker which does not try every pair of ends.
+    pub fn run_passes(&mut self) -> bool {
+        self.part("bucketlets aimed at a pass", Comparison::aimed_at_a_pass);
         self.report()
     }
 
@@ -402,11 +429,12 @@ impl<'a> Comparison<'a> {
 
     fn show_counts(&mut self) {
         let Counts { lists, built, foreign, damaged, random, .. } = self.counts;
-        let Counts { accepted, estimates, ranges, sums, mismatches, .. } = self.counts;
+        let Counts { checks, accepted, estimates, ranges, sums, mismatches, .. } = self.counts;
         let Counts { worksheets, answers, searches, summed, .. } = self.counts;
         let Counts { journals, replayed, lines, pairs, backwards, .. } = self.counts;
         self.show(&format!("{lists} lists"));
         self.show(&format!("histograms: {built} built, {foreign} foreign, {damaged} damaged, {random} random"));
+        self.show(&format!("{checks} checks by every pair of ends and by a pass"));
         self.show(&format!("{estimates} estimates, {accepted} accepted pairs with {ranges} ranges and {sums} sums"));
         self.show(&format!("{worksheets} worksheets with {answers} answers, {searches} searches with {summed} summed"));
         self.show(&format!("{journals} journals, {replayed} of them replayed, with {lines} lines"));

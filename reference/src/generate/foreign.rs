@@ -113,7 +113,8 @@ fn class_near(random: &mut Random, f: u64, bound: Bound) -> u32 {
     end_or_any(random, &within)
 }
 
-fn total_near(random: &mut Random, f: u64, classes: &[u32], bound: Bound) -> u32 {
+/// A code whose number lies within q of a count, or just outside.
+pub fn total_near(random: &mut Random, f: u64, classes: &[u32], bound: Bound) -> u32 {
     let within = places_within(f, bound);
     // Beside other classes than 0, code 0 would not be read.
     let first = usize::from(classes.iter().any(|&class| class > 0));

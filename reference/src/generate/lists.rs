@@ -175,7 +175,8 @@ fn some_range(random: &mut Random, frequencies: &[u32]) -> (u64, u64, u64, u64) 
     (count(&part[from..from + n as usize]), n, s.into(), w)
 }
 
-fn divisor(a: u64, b: u64) -> u64 {
+/// The greatest common divisor.
+pub fn divisor(a: u64, b: u64) -> u64 {
     if b == 0 {
         a
     } else {

@@ -6,6 +6,7 @@ pub mod directed;
 pub mod foreign;
 pub mod journals;
 pub mod lists;
+pub mod passes;
 pub mod ranges;
 pub mod searches;
 pub mod sharper;

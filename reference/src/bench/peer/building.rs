@@ -1,19 +1,10 @@
 //! The builder: bounds on a bucketlet's number over its width, kept while it grows.
 
 use super::coding::{class_for, class_number, code_for};
-use super::Quality;
+use super::{Quality, Ranges};
 use crate::build::fault;
 use crate::list::Bound;
 use crate::words::{HEADS, PER_BUCKET, WIDEST_FREE, WIDEST_LISTED};
-
-/// Which of the ranges that end at an entry are looked at.
-#[derive(Clone, Copy, Debug, PartialEq, Eq)]
-pub enum Ranges {
-    /// All but those that split into two with counts above theta, as in the proved builder.
-    Fewer,
-    /// All, as in the paper's Figure 6.
-    Every,
-}
 
 /// The greatest count/length of the ranges with a count above theta, and the greatest length/cap of all, where the cap
 /// is the larger of qd theta and qn count.

@@ -11,7 +11,16 @@ mod replaying;
 use crate::build::Way;
 use crate::list::Bound;
 use crate::program::*;
-pub use building::Ranges;
+
+/// Which ranges of a bucketlet are looked at.
+#[derive(Clone, Copy, Debug, PartialEq, Eq)]
+pub enum Ranges {
+    /// As in the proved calls. The builder leaves out those that split into two with counts above theta; the checker
+    /// finds by a pass from which entry on there is one that fails.
+    Fewer,
+    /// All: as in the paper's Figure 6, and every pair of ends.
+    Every,
+}
 
 /// Theta and q in 64 bits, for products of them.
 #[derive(Clone, Copy)]
@@ -27,7 +36,7 @@ impl From<Bound> for Quality {
     }
 }
 
-/// Answers every call; a bucketlet grows by these ranges.
+/// Answers every call; a bucketlet grows and is checked by these ranges.
 #[derive(Clone, Copy, Debug)]
 pub struct Peer(pub Ranges);
 
@@ -57,7 +66,7 @@ impl Program for Peer {
     }
 
     fn check(&self, frequencies: &[u32], words: &[u32]) -> QhVerdict {
-        checking::check(frequencies, words).into()
+        checking::check(self.0, frequencies, words).into()
     }
 
     fn estimate(&self, words: &[u32], x: u32, y: u32) -> QhEstimate {
