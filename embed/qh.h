@@ -189,6 +189,7 @@ typedef struct {
 /* Whether the histogram is accepted for the list: the number of each bucketlet and the total of each bucket is within
  * the factor q of the count, and so is, for a part of a bucketlet, its share of the number, unless it and the count are
  * at most theta. What fails is looked for bucket by bucket: in each bucketlet by start and then by end, the total last.
+ * The time of a call is at most in proportion to the lengths of the list and the words, whatever they hold.
  * Refused with 1, 3, 7, 24, then 8 to 13. */
 QhVerdict qh_check(const uint32_t *freqs, size_t freqs_len, const uint32_t *words, size_t words_len);
 
