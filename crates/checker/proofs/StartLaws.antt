@@ -1,5 +1,5 @@
 -- Where the search of a bucketlet begins: a whole that fails is a range of the first start; where it is near, the ranges that fail are those that do
--- not fit.
+-- not fit; one entry has no other range.
 -- Assumes nothing.
 use mathlib.Core.Path.{_≡_, sym, _∙_}
 use mathlib.Core.Bool.{true, false}
@@ -45,31 +45,31 @@ module _ (q : Quality) (fs : List ℕ) (a w s : ℕ) where
     whole : (x y : ℕ) → x < y → y ≤ w → y - x ≡ w → near q (partSum (a + x) (y - x) fs) ((y - x) * s) w ≡ true
     whole x y g l n = let z : a + x ≡ a = omega arith in rw (z, n) e
 
-  pub unfit-first : near q (partSum a w fs) (w * s) w ≡ true → (i : ℕ) → FirstStart w (unfit q fs a w s) 0 i → FirstStart w (fails q fs a w s) 0 i
-  unfit-first e i d =
-      record {
-        within = d .within;
-        earlier = λ x y o h g l. not-fails _ (is-good q _ (y - x) s w (not-false _ (d .earlier x y o h g l)) (whole e x y g l));
-        ended = λ h.
-            let b = d .ended h in
-            record {
-              end = b .end;
-              after = b .after;
-              inside = b .inside;
-              is-bad = not-holds _ (is-false _ (λ t. true-not-false (good-fits q _ (b .end - i) s w t) (not-true _ (b .is-bad))));
-            };
-      }
+    -- one entry has no other range
+    pub alone-first : w < 2 → FirstStart w (fails q fs a w s) 0 w
+    alone-first l =
+        record {
+          within = omega arith;
+          earlier = λ x y o h g m.
+              let n : y - x ≡ w = omega arith in
+              not-fails _ (is-good q _ (y - x) s w (near-fits q _ _ w (near-says q _ _ w (whole x y g m n))) (whole x y g m));
+          ended = λ h. absurd (omega arith);
+        }
 
-  -- one entry has no range but the whole
-  pub alone-first : near q (partSum a w fs) (w * s) w ≡ true → w < 2 → FirstStart w (fails q fs a w s) 0 w
-  alone-first e l =
-      record {
-        within = omega arith;
-        earlier = λ x y o h g m.
-            let n : y - x ≡ w = omega arith in
-            not-fails _ (is-good q _ (y - x) s w (near-fits q _ _ w (near-says q _ _ w (whole e x y g m n))) (whole e x y g m));
-        ended = λ h. absurd (omega arith);
-      }
+    pub unfit-first : (i : ℕ) → FirstStart w (unfit q fs a w s) 0 i → FirstStart w (fails q fs a w s) 0 i
+    unfit-first i d =
+        record {
+          within = d .within;
+          earlier = λ x y o h g l. not-fails _ (is-good q _ (y - x) s w (not-false _ (d .earlier x y o h g l)) (whole x y g l));
+          ended = λ h.
+              let b = d .ended h in
+              record {
+                end = b .end;
+                after = b .after;
+                inside = b .inside;
+                is-bad = not-holds _ (is-false _ (λ t. true-not-false (good-fits q _ (b .end - i) s w t) (not-true _ (b .is-bad))));
+              };
+        }
 
   -- no range that starts earlier fails
   pub first-begins : (i : ℕ) → FirstStart w (fails q fs a w s) 0 i → Begins q fs a w s i

@@ -26,7 +26,7 @@ use Rattle.checker.specs.Private.Breaking.{breaks, rangeBreaks, countBou
 module _ (w : ℕ) {bad one other : ℕ → ℕ → Bool}
     (neither : (x y : ℕ) → x < y → y ≤ w → one x y ≡ false → other x y ≡ false → bad x y ≡ false)
     (by-one : (x y : ℕ) → x < y → y ≤ w → one x y ≡ true → bad x y ≡ true) where
-  pub earlier-start : (i j : ℕ) → FirstStart w one 0 i → FirstStart w other 0 j → i ≤ j → FirstStart w bad 0 i
+  earlier-start : (i j : ℕ) → FirstStart w one 0 i → FirstStart w other 0 j → i ≤ j → FirstStart w bad 0 i
   earlier-start i j c d h =
       record {
         within = c .within;
@@ -95,13 +95,13 @@ module _ (fs : List ℕ) (q : Quality) (a w s : ℕ) (p : Searchable fs q a w s)
     abbrev f : ℕ
     f = partSum (a + x) (y - x) fs
 
-    pub neither-breaks : rangeBreaks (countBound q a w s) fs x y ≡ false → rangeBreaks (estimateBound q a w s) fs x y ≡ false → unfit q fs a w s x y ≡ false
+    neither-breaks : rangeBreaks (countBound q a w s) fs x y ≡ false → rangeBreaks (estimateBound q a w s) fs x y ≡ false → unfit q fs a w s x y ≡ false
     neither-breaks c e = not-fails _ (keeps-fits q (p .sound .qd-some) above a w s (omega arith) f (y - x) c e)
 
-    pub count-breaks : rangeBreaks (countBound q a w s) fs x y ≡ true → unfit q fs a w s x y ≡ true
+    count-breaks : rangeBreaks (countBound q a w s) fs x y ≡ true → unfit q fs a w s x y ≡ true
     count-breaks b = not-holds _ (is-false _ (λ t. true-not-false b (keeps-count q (p .sound .qd-some) above a w s (omega arith) f (y - x) t)))
 
-    pub estimate-breaks : rangeBreaks (estimateBound q a w s) fs x y ≡ true → unfit q fs a w s x y ≡ true
+    estimate-breaks : rangeBreaks (estimateBound q a w s) fs x y ≡ true → unfit q fs a w s x y ≡ true
     estimate-breaks b = not-holds _ (is-false _ (λ t. true-not-false b (keeps-estimate q (p .sound .qd-some) above a w s (omega arith) f (y - x) t)))
 
   -- the earlier of the two starts
