@@ -13,10 +13,14 @@ use Rattle.laws.proofs.SumsLaws.{part-suc}
 use Rattle.list_rules.specs.declared.Quality.{Quality}
 use Rattle.check_rules.specs.Failing.{rangeGood}
 use Rattle.check_rules.specs.Claims.{FirstRange}
-use Rattle.checker.specs.Private.Searching.{Begins}
 
 module _ (q : Quality) (fs : List ℕ) (a w s : ℕ) where
-  -- every range from i that ends before j is good, and the count is that of the longest of them
+  -- every range that starts before i is good
+  pub record Starts (i : ℕ) : Type 0 where
+    pub within : i ≤ w
+    pub good : (x y : ℕ) → x < i → x < y → y ≤ w → rangeGood q fs a w s x y ≡ true
+
+  -- so is every range from i that ends before j, and the count is that of the longest of them
   pub record Ends (i count j : ℕ) : Type 0 where
     pub some : i < j
     pub within : j ≤ suc w
@@ -52,12 +56,12 @@ module _ (q : Quality) (fs : List ℕ) (a w s : ℕ) where
       }
 
   -- every range from i is good
-  pub next-start : (i count j : ℕ) → Begins q fs a w s i → Ends i count j → i < w → w < j → Begins q fs a w s (suc i)
+  pub next-start : (i count j : ℕ) → Starts i → Ends i count j → i < w → w < j → Starts (suc i)
   next-start i count j r e h l =
       record {
         within = h;
         good = λ x y g m n. ⊎-elim (λ (d : x ≡ i). subst (λ (z : ℕ). rangeGood q fs a w s z y ≡ true) {x = i} {y = x} (omega arith) (e .good y (omega arith) (omega arith))) (λ (d : x < i). r .good x y d m n) (eq-or-lt-of-le (le-of-suc-le-suc g));
       }
 
-  pub found : (i count j : ℕ) → Begins q fs a w s i → Ends i count j → j ≤ w → rangeGood q fs a w s i j ≡ false → FirstRange q fs a w s i j
+  pub found : (i count j : ℕ) → Starts i → Ends i count j → j ≤ w → rangeGood q fs a w s i j ≡ false → FirstRange q fs a w s i j
   found i count j r e l f = record { some = e .some; inside = l; fails = f; earlier-start = r .good; earlier-end = e .good }

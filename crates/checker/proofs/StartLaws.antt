@@ -13,7 +13,8 @@ use Rattle.list_rules.specs.declared.Quality.{Quality}
 use Rattle.fit.specs.Fit.{near}
 use Rattle.fit.proofs.FitLaws.{near-says, near-fits}
 use Rattle.check_rules.proofs.RangeLaws.{good-fits, whole-near, is-good}
-use Rattle.checker.specs.Private.Searching.{Begins, FirstStart, unfit, fails}
+use Rattle.checker.specs.Private.Searching.{FirstStart, unfit, fails}
+use Rattle.checker.proofs.SearchSteps.{Starts}
 
 pub same-near : (q : Quality) (w f g x y : ℕ) → f ≡ g → x ≡ y → near q f x w ≡ near q g y w
 same-near q w f g x y e d = λ k. near q (e k) (d k) w
@@ -72,5 +73,5 @@ module _ (q : Quality) (fs : List ℕ) (a w s : ℕ) where
         }
 
   -- no range that starts earlier fails
-  pub first-begins : (i : ℕ) → FirstStart w (fails q fs a w s) 0 i → Begins q fs a w s i
-  first-begins i d = record { within = d .within; good = λ x y h g l. not-false _ (d .earlier x y (omega arith) h g l) }
+  pub first-starts : (i : ℕ) → FirstStart w (fails q fs a w s) 0 i → Starts q fs a w s i
+  first-starts i d = record { within = d .within; good = λ x y h g l. not-false _ (d .earlier x y (omega arith) h g l) }

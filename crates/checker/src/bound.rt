@@ -1,6 +1,6 @@
 // The first start in a bucketlet from which some range does not fit, found without trying every pair of ends. A range fits exactly if it keeps two
-// bounds. Each compares two measures of the range, and these are differences between its two ends; so, from the right, each start and each end is
-// looked at once.
+// bounds. Each compares two measures of the range, and these are differences between its two ends; so, from the right, each start is looked at once
+// and each end at most once.
 
 use list_rules::Quality;
 ghost use mathlib.Core.Path.{_≡_};

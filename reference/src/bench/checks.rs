@@ -1,10 +1,10 @@
 //! Times of checking histograms, beside the same algorithm in Rust and beside one that tries every pair of ends.
 
-use super::clock::{measure_for, ratio, shown, timed, Row, Run, PASSES};
+use super::clock::{measure_for, timed, Row, Run, PASSES};
 use super::lists::{restless, List};
 use super::peer::{Peer, Ranges};
 use super::table::{grouped, Table};
-use super::times::{built, PEER};
+use super::times::{buckets, built, PEER};
 use crate::list::{Bound, MOST_THETA};
 use crate::program::{Program, QhVerdict};
 use crate::words::{read, write};
@@ -55,10 +55,6 @@ impl Case {
         let name = format!("{}, {name}", self.name);
         Case { name, frequencies: self.frequencies.clone(), theta: MOST_THETA, words: write(&histogram) }
     }
-
-    fn buckets(&self) -> usize {
-        (self.words.len() - 4) / 5
-    }
 }
 
 fn answer(verdict: QhVerdict) -> String {
@@ -79,7 +75,7 @@ fn row<'a>(proved: &'a dyn Program, case: &'a Case) -> Row<'a> {
         assert_eq!(program.check(frequencies, words), verdict, "the sides answer alike");
         Box::new(move || timed(|| program.check(frequencies, words)))
     };
-    let cells = vec![name.clone(), grouped((*theta).into()), grouped(case.buckets() as u64), answer(verdict)];
+    let cells = vec![name.clone(), grouped((*theta).into()), grouped(buckets(words) as u64), answer(verdict)];
     Row::new(cells, vec![run(proved), run(&PEER), run(&EVERY_PAIR)], 1)
 }
 
@@ -126,14 +122,6 @@ pub fn print(proved: &impl Program, lists: &[List]) {
     measure_for(&mut rows, ROUNDS, LEAST_TIME);
     explain(&cases);
     let mut table = Table::new(HEAD.map(String::from).to_vec());
-    for row in &rows {
-        let nanos = row.nanos();
-        let mut cells = row.cells.clone();
-        cells.push(shown(nanos[0]));
-        for &other in &nanos[1..] {
-            cells.extend([shown(other), ratio(nanos[0], other)]);
-        }
-        table.add(cells);
-    }
+    rows.iter().for_each(|row| table.add(row.compared()));
     table.print(1);
 }

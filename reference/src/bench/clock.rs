@@ -41,6 +41,17 @@ impl<'a> Row<'a> {
         }
     }
 
+    /// The cells, the first side's time, and each other's with how many times as long the first takes.
+    pub fn compared(&self) -> Vec<String> {
+        let nanos = self.nanos();
+        let mut cells = self.cells.clone();
+        cells.push(shown(nanos[0]));
+        for &other in &nanos[1..] {
+            cells.extend([shown(other), ratio(nanos[0], other)]);
+        }
+        cells
+    }
+
     /// The shortest time of a call of each side, in nanoseconds.
     pub fn nanos(&self) -> Vec<f64> {
         self.shortest.iter().map(|time| time.as_nanos() as f64 / self.calls as f64).collect()

@@ -1,6 +1,6 @@
 //! Times of the proved calls beside the same algorithms in Rust; `checks`, `worksheets` and `journals` have the others.
 
-use super::clock::{measure, ratio, shown, timed, Row, Run, PASSES, ROUNDS};
+use super::clock::{measure, timed, Row, Run, PASSES, ROUNDS};
 use super::lists::{ranges, restless, List};
 use super::peer::{Peer, Ranges};
 use super::table::{grouped, Table};
@@ -61,8 +61,12 @@ impl<'a> Case<'a> {
     }
 
     pub fn buckets(&self) -> usize {
-        (self.words.len() - 4) / 5
+        buckets(&self.words)
     }
+}
+
+pub fn buckets(words: &[u32]) -> usize {
+    (words.len() - 4) / 5
 }
 
 /// The words that a program builds.
@@ -187,12 +191,7 @@ turn, so that each bucketlet has one entry.
 fn show(rows: &[Row]) {
     let mut table = Table::new(HEAD.map(String::from).to_vec());
     for row in rows {
-        let nanos = row.nanos();
-        let mut cells = row.cells.clone();
-        cells.push(shown(nanos[0]));
-        for &other in &nanos[1..] {
-            cells.extend([shown(other), ratio(nanos[0], other)]);
-        }
+        let mut cells = row.compared();
         cells.resize(HEAD.len(), String::new());
         table.add(cells);
     }

@@ -42,11 +42,6 @@ unfit q fs a w s i j = not (fits q (partSum (a + i) (j - i) fs) ((j - i) * s) w)
 abbrev pub fails : Quality → List ℕ → ℕ → ℕ → ℕ → ℕ → ℕ → Bool
 fails q fs a w s i j = not (rangeGood q fs a w s i j)
 
--- no range of it that starts before i fails
-pub record Begins (q : Quality) (fs : List ℕ) (a w s i : ℕ) : Type 0 where
-  pub within : i ≤ w
-  pub good : (x y : ℕ) → x < i → x < y → y ≤ w → rangeGood q fs a w s x y ≡ true
-
 -- an end of a bad range from i
 pub record BadEnd (w : ℕ) (bad : ℕ → ℕ → Bool) (i : ℕ) : Type 0 where
   pub end : ℕ

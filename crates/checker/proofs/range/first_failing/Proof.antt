@@ -16,9 +16,8 @@ use Rattle.check_rules.specs.declared.Sort.{Sort}
 use Rattle.check_rules.specs.declared.Verdict.the-variants.{Fails}
 use Rattle.check_rules.specs.Failing.{countGood, rangeGood}
 use Rattle.check_rules.proofs.RangeLaws.{nothing-fails, first-range}
-use Rattle.checker.specs.Private.Searching.{Begins}
-use Rattle.checker.proofs.StartLaws.{first-begins}
-use Rattle.checker.proofs.SearchSteps.{Ends, no-end, next-count, next-end, next-start, found}
+use Rattle.checker.proofs.StartLaws.{first-starts}
+use Rattle.checker.proofs.SearchSteps.{Starts, Ends, no-end, next-count, next-end, next-start, found}
 use Rattle.checker.proofs.range.first_failing.Statement.{statement}
 use Rattle.checker.proofs.range.first_failing.Tie as tie
 
@@ -29,7 +28,7 @@ abbrev μ-loop2 : tie.MeasureT-loop2
 μ-loop2 freqs q a w s width begin start count₀ end₀ end-end count end = w + 1 - end
 
 abbrev Inv-loop : tie.InvT-loop
-Inv-loop freqs q a w s width begin start₀ start = Begins q freqs a w s start
+Inv-loop freqs q a w s width begin start₀ start = Starts q freqs a w s start
 
 abbrev μ-loop : tie.MeasureT-loop
 μ-loop freqs q a w s width begin start₀ start = w - start
@@ -46,8 +45,8 @@ search-holds c = tt
 loop-holds : tie.Need-loop-holds Inv-loop2 μ-loop2 Inv-loop μ-loop Inv-search μ-search
 loop-holds c =
     let a = c .before .before .before .args in
-    subst (Begins (a .q) (a .freqs .now) (a .a) (a .w) (a .s)) (omega arith)
-    (first-begins (a .q) (a .freqs .now) (a .a) (a .w) (a .s) (c .before .first-start .result) (c .before .first-start .ensures))
+    subst (Starts (a .q) (a .freqs .now) (a .a) (a .w) (a .s)) (omega arith)
+    (first-starts (a .q) (a .freqs .now) (a .a) (a .w) (a .s) (c .before .first-start .result) (c .before .first-start .ensures))
 
 add-end : tie.Need-add-end Inv-loop2 μ-loop2 Inv-loop μ-loop Inv-search μ-search
 add-end c = search needs
