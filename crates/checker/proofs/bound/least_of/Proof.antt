@@ -11,5 +11,8 @@ mul-result c = let p = c .before .pre in omega (arith, mul-le-mul (p .0) (p .2))
 mul-result-2 : tie.Need-mul-result-2
 mul-result-2 c = let p = c .before .before .pre in omega (arith, mul-le-mul (p .1) (mul-le-mul (p .0) (p .2)))
 
+returns : tie.Need-returns
+returns c = omega arith
+
 pub least-of-spec : {M : Type 1} → statement M
-least-of-spec = tie.close (tie.spec mul-result mul-result-2 (λ c. omega arith))
+least-of-spec = tie.close (tie.spec mul-result mul-result-2 returns)
