@@ -1,8 +1,9 @@
-//! "Building": the builder, with three ways to grow a bucketlet that must agree.
+//! "Building": the builder, with four ways to grow a bucketlet that must agree.
 
 use crate::coding::{class_for, class_number, code_for};
 use crate::fits::first_failing;
 use crate::list::{count, list_fault, Bound};
+use crate::lowest::Kept;
 use crate::words::{write, Bucket, Histogram, WIDEST_FREE, WIDEST_LISTED};
 
 /// How a bucketlet's width is found.
@@ -14,9 +15,11 @@ pub enum Way {
     Figure6,
     /// The same without the ranges that two shorter ones answer for.
     FewerRanges,
+    /// One start for each bound tells whether any range that ends there moves it.
+    LowestStart,
 }
 
-pub const WAYS: [Way; 3] = [Way::Rule, Way::Figure6, Way::FewerRanges];
+pub const WAYS: [Way; 4] = [Way::Rule, Way::Figure6, Way::FewerRanges, Way::LowestStart];
 
 /// The largest width up to the limit such that every width up to it fits.
 pub fn grow(way: Way, rest: &[u32], limit: usize, bound: Bound) -> usize {
@@ -24,6 +27,7 @@ pub fn grow(way: Way, rest: &[u32], limit: usize, bound: Bound) -> usize {
         Way::Rule => grow_by_rule(rest, limit, bound),
         Way::Figure6 => grow_by_slopes(rest, limit, bound, add_every_range),
         Way::FewerRanges => grow_by_slopes(rest, limit, bound, add_fewer_ranges),
+        Way::LowestStart => grow_by_lowest(rest, limit, bound),
     }
 }
 
@@ -93,12 +97,27 @@ fn add_fewer_ranges(slopes: &mut Slopes, part: &[u32]) {
 
 fn grow_by_slopes(rest: &[u32], limit: usize, bound: Bound, add_ranges: fn(&mut Slopes, &[u32])) -> usize {
     let mut slopes = Slopes::new(bound);
+    grow_while(rest, limit, bound, |part, s| {
+        add_ranges(&mut slopes, part);
+        slopes.allow(s, part.len() as u64)
+    })
+}
+
+fn grow_by_lowest(rest: &[u32], limit: usize, bound: Bound) -> usize {
+    let mut kept = Kept::new(bound);
+    grow_while(rest, limit, bound, |part, s| {
+        kept.take(part[part.len() - 1]);
+        kept.allow(s, part.len() as u64)
+    })
+}
+
+/// The last width up to which each one's parts are allowed, in turn, and its whole is within q.
+pub fn grow_while(rest: &[u32], limit: usize, bound: Bound, mut allowed: impl FnMut(&[u32], u64) -> bool) -> usize {
     let mut whole = 0;
     for end in 1..=limit {
         whole += u64::from(rest[end - 1]);
-        add_ranges(&mut slopes, &rest[..end]);
         let s = u64::from(class_number(class_for(whole)));
-        if !(slopes.allow(s, end as u64) && bound.within_q(whole, s)) {
+        if !(allowed(&rest[..end], s) && bound.within_q(whole, s)) {
             return end - 1;
         }
     }

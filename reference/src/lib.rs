@@ -9,6 +9,7 @@ pub mod coding;
 pub mod estimate;
 pub mod fits;
 pub mod list;
+pub mod lowest;
 pub mod sheet;
 pub mod words;
 

@@ -1,7 +1,7 @@
 //! The comparison finds nothing where there is nothing, and each known fault where it is.
 
 use reference::broken::{Broken, Fault, FAULTS};
-use reference::build::Way;
+use reference::build::WAYS;
 use reference::compare::{Comparison, Volume};
 use reference::program::{Program, Reference};
 
@@ -11,19 +11,23 @@ type Run = fn(&mut Comparison) -> bool;
 const ALL: Run = |comparison| comparison.run();
 const JOURNALS: Run = |comparison| comparison.run_journals();
 const PASSES: Run = |comparison| comparison.run_passes();
+const STARTS: Run = |comparison| comparison.run_starts();
+
+/// Some faults of a builder that keeps one start for each bound show on few lists.
+const MORE_STARTS: Volume = Volume { starts: 40, ..Volume::QUICK };
 
 /// Whether a program passes, and what is printed.
-fn compared(program: &dyn Program, run: Run) -> (bool, String) {
+fn compared(program: &dyn Program, volume: Volume, run: Run) -> (bool, String) {
     let real = vec![vec![1, 60, 3, 3, 3, 2, 900, 1, 1, 4, 4, 4, 5]];
     let mut out = Vec::new();
-    let passed = run(&mut Comparison::new(program, Volume::QUICK, 1, real, &mut out));
+    let passed = run(&mut Comparison::new(program, volume, 1, real, &mut out));
     (passed, String::from_utf8(out).expect("text"))
 }
 
 #[test]
 fn a_right_program_passes() {
-    for way in [Way::Figure6, Way::FewerRanges] {
-        let (passed, out) = compared(&Reference(way), ALL);
+    for way in &WAYS[1..] {
+        let (passed, out) = compared(&Reference(*way), Volume::QUICK, ALL);
         assert!(passed && out.ends_with(" passed, 0 failed\n"), "{out}");
         assert!(!out.contains("MISMATCH"), "{out}");
     }
@@ -31,6 +35,7 @@ fn a_right_program_passes() {
 
 const NEAR: &str = "check: bucketlets up to theta or q";
 const BEYOND: &str = "check: bucketlets a hair beyond";
+const SHORT_STARTS: &str = "build: short lists aimed at a lowest start";
 const WHOLES: &str = "build: whole bucketlets and buckets within 5/4";
 const GOOD: &str = "replay: good journals, and up to either bound";
 const BELOW: &str = "replay: a frequency below 0";
@@ -41,7 +46,27 @@ const JOINED: &str = "replay: two journals one after the other, and joined";
 const BACKWARDS: &str = "replay: backwards brings the list back";
 
 /// A group that must find a fault, whichever others do.
-const FOUND_BY: [(Fault, &str); 61] = [
+const FOUND_BY: [(Fault, &str); 81] = [
+    (Fault::CountOfThetaHeavy, SHORT_STARTS),
+    (Fault::CountOfAQthHeavy, SHORT_STARTS),
+    (Fault::ThetaForBothBounds, SHORT_STARTS),
+    (Fault::QthForBothBounds, SHORT_STARTS),
+    (Fault::QthRoundedUp, SHORT_STARTS),
+    (Fault::LowestNeverReplaced, SHORT_STARTS),
+    (Fault::LowestAlwaysReplaced, SHORT_STARTS),
+    (Fault::LowestNotRenewed, SHORT_STARTS),
+    (Fault::LowestTakenUnsearched, SHORT_STARTS),
+    (Fault::FirstSteeperTaken, SHORT_STARTS),
+    (Fault::FirstStartNotSearched, SHORT_STARTS),
+    (Fault::NearestStartNotSearched, SHORT_STARTS),
+    (Fault::LightStartSearched, SHORT_STARTS),
+    (Fault::SearchOneShort, SHORT_STARTS),
+    (Fault::SplitAtTheThreshold, SHORT_STARTS),
+    (Fault::LongestLeftOut, SHORT_STARTS),
+    (Fault::LongestNotKept, SHORT_STARTS),
+    (Fault::LongestOneShort, SHORT_STARTS),
+    (Fault::LongestOneLong, SHORT_STARTS),
+    (Fault::BoundsIn32Bits, SHORT_STARTS),
     (Fault::FirstStartLeftOut, BEYOND),
     (Fault::LastStartLeftOut, BEYOND),
     (Fault::FirstStartMetNamed, BEYOND),
@@ -110,14 +135,16 @@ const FOUND_BY: [(Fault, &str); 61] = [
 fn expect_found(fault: Fault, call: &'static str) {
     let broken = Broken { fault, call };
     // One part replays all journals: that such a fault shows nowhere else is seen of the one that refuses all. One part
-    // is aimed at faults of a pass: that those of a checker show nowhere else is seen of the others.
-    let (all, run) = match fault {
-        Fault::JournalsRefused => (true, ALL),
-        _ if call == "replay" => (false, JOURNALS),
-        _ if broken.is_of_a_pass() => (false, PASSES),
-        _ => (true, ALL),
+    // is aimed at faults of a pass, and one at those of a lowest start: that those of a checker or of a builder show
+    // nowhere else is seen of the others.
+    let (all, volume, run) = match fault {
+        Fault::JournalsRefused => (true, Volume::QUICK, ALL),
+        _ if call == "replay" => (false, Volume::QUICK, JOURNALS),
+        _ if broken.is_of_a_pass() => (false, Volume::QUICK, PASSES),
+        _ if broken.is_of_a_start() => (false, MORE_STARTS, STARTS),
+        _ => (true, Volume::QUICK, ALL),
     };
-    let (passed, out) = compared(&broken, run);
+    let (passed, out) = compared(&broken, volume, run);
     assert!(!passed, "{fault:?} in {call} was not found");
     assert!(!out.ends_with(" 0 failed\n"), "{fault:?} in {call}: {out}");
     let ran = |line: &&str| all || !line.ends_with(": 0, 0 mismatches");

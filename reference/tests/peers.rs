@@ -1,9 +1,11 @@
 //! What the benchmark measures the proved calls by answers as the reference does.
 
 use reference::bench::peer::{Peer, Ranges};
+use reference::build::{self, histogram};
 use reference::check::{check_by, Way};
 use reference::compare::{Comparison, Volume};
 use reference::generate::passes::{placed, Aimed, AIMS, PLACES};
+use reference::generate::starts::{self, LONG};
 use reference::generate::Random;
 use reference::program::{Program, QhVerdict};
 use reference::words::write;
@@ -35,6 +37,20 @@ fn peers_check_wide_bucketlets_as_the_reference() {
                     assert_eq!(Peer(ranges).check(&placed.frequencies, &words), expected, "{ranges:?} {aimed:?}");
                 }
             }
+        }
+    }
+}
+
+#[test]
+fn peers_build_long_lists_as_the_reference() {
+    let mut random = Random::new(42);
+    for (aim, length) in starts::AIMS.into_iter().flat_map(|aim| LONG.map(|length| (aim, length))) {
+        let (list, bound) = aim(&mut random, length);
+        let expected = write(&histogram(build::Way::FewerRanges, &list, bound).expect("a good list"));
+        for ranges in BOTH {
+            let mut lent = vec![0; expected.len()];
+            assert_eq!(Peer(ranges).build(&list, bound, &mut lent).words, expected.len(), "{ranges:?} {bound}");
+            assert_eq!(lent, expected, "{ranges:?} {bound}");
         }
     }
 }

@@ -1,57 +1,27 @@
 // The width of a bucketlet: grown an entry at a time, while the bounds on its number over its width hold.
 
+use super::bound::one_later;
+use super::bound::widened;
+use super::tried::with_end;
+use build_bounds::Bound;
 use build_bounds::Bounds;
+use build_bounds::Grown;
+use build_bounds::Kept;
+use build_bounds::Over;
+use build_bounds::Point;
 use build_bounds::Ratio;
 use counts::Coded;
 use counts::Meaning;
 use list_rules::Quality;
 ghost use mathlib.Core.Path.{_≡_};
-ghost use mathlib.Core.Bool.{cond, _&&_};
-ghost use Prim.Native.Nat.{suc, _-_, _*_, _^_, _≤_, _<_};
-ghost use lib.Dec.{ltb};
+ghost use Prim.Native.Nat.{_-_, _≤_, min, max};
 ghost use Rattle.counts_rules.specs.Limit.{limit};
 ghost use Rattle.counts_rules.specs.Class.{classValue};
 ghost use Rattle.build_rules.specs.Width.{width};
-ghost use Rattle.build_bounds.specs.Private.Growing.{Growable, Widenable, Bounding, Testable, greater, counted, passes};
+ghost use Rattle.build_bounds.specs.Private.Growing.{Growable, Testable, passes, ThresholdSmall, upBound, Reached, Continued, unsearched, bounds};
 
-// The greater of two ratios.
-fn greater_of(p: Ratio, top: u64, bottom: u64) -> Ratio
-    requires { ⌜ (p .top * bottom < 2 ^ 64) × (top * p .bottom < 2 ^ 64) ⌝ }
-    ensures { λ r. ⌜ r ≡ greater p top bottom ⌝ }
-{
-    if p.top * bottom < top * p.bottom {
-        Ratio { top, bottom }
-    } else {
-        p
-    }
-}
-
-// The greater of two ratios, if the count is above theta.
-fn counted_of(p: Ratio, theta: u64, count: u64, n: u64) -> Ratio
-    requires { ⌜ (p .top * n < 2 ^ 64) × (count * p .bottom < 2 ^ 64) ⌝ }
-    ensures { λ r. ⌜ r ≡ counted p theta count n ⌝ }
-{
-    if theta < count {
-        greater_of(p, count, n)
-    } else {
-        p
-    }
-}
-
-// The first count above theta of the ranges that end at one place, from the shortest on: heavy once it is above theta, and till then count.
-fn first_heavy(heavy: u64, theta: u64, count: u64) -> u64
-    ensures { λ r. ⌜ r ≡ cond (ltb theta heavy) heavy count ⌝ }
-{
-    if theta < heavy { heavy } else { count }
-}
-
-// Whether a range splits into two whose counts are above theta, the later one's being heavy.
-fn splits(heavy: u64, theta: u64, count: u64) -> bool
-    requires { ⌜ heavy ≤ count ⌝ }
-    ensures { λ r. ⌜ r ≡ (ltb theta heavy && ltb theta (count - heavy)) ⌝ }
-{
-    theta < heavy && theta < count - heavy
-}
+// Up to this width the ranges of a bucketlet are few, and all are tried.
+const FEW: usize = 8;
 
 // The number that stands for a count.
 fn class_value(count: u64) -> u64
@@ -67,33 +37,6 @@ fn class_value(count: u64) -> u64
     arithmetic::wide(number)
 }
 
-// The bounds with the ranges that end after w + 1 entries, where those of w entries are known. A range that splits into two with counts above
-// theta adds nothing to either bound, and no longer one with the same end does.
-fn widened(freqs: &[u32], a: usize, w: usize, q: Quality, known: Bounds) -> Bounds
-    requires { ⌜ Widenable (now freqs) a w q known ⌝ }
-    ensures { λ r. ⌜ Bounding q (now (freqs .entry)) a (suc w) 0 r ⌝ }
-{
-    let least = q.qd * q.theta;
-    let end = w + 1;
-    let mut low = known.low;
-    let mut up = known.up;
-    let mut count: u64 = 0;
-    let mut heavy: u64 = 0;
-    let mut i = end;
-    while 0 < i {
-        i -= 1;
-        count += arithmetic::wide(freqs[a + i]);
-        if splits(heavy, q.theta, count) {
-            break;
-        }
-        heavy = first_heavy(heavy, q.theta, count);
-        let n = (end - i) as u64;
-        low = counted_of(low, q.theta, count, n);
-        up = greater_of(up, n, arithmetic::larger_of_wide(least, q.qn * count));
-    }
-    Bounds { low, up }
-}
-
 // Whether the number s over the width w lies between the bounds.
 fn passes(q: Quality, b: Bounds, s: u64, w: u64) -> bool
     requires { ⌜ Testable q b s w ⌝ }
@@ -102,29 +45,131 @@ fn passes(q: Quality, b: Bounds, s: u64, w: u64) -> bool
     if q.qn * s * b.low.bottom < q.qd * b.low.top * w {
         return false;
     }
-    q.qd * b.up.top * s <= b.up.bottom * w
+    if q.qn * b.up.bottom * w < q.qd * b.up.top * s {
+        return false;
+    }
+    b.longest * s <= q.theta * w
 }
 
-// The width of the bucketlet at entry a. Kept from width to width: the greatest count/length of the ranges with a count above theta, and the
-// greatest length/cap of all ranges, the cap being the larger of qd * theta and qn * count.
+// The largest count whose q-fold is at most theta.
+fn threshold_of(q: Quality) -> u64
+    requires { ⌜ ThresholdSmall q ⌝ }
+    ensures { λ r. ⌜ r ≡ upBound q .threshold ⌝ }
+{
+    q.qd * q.theta / q.qn
+}
+
+fn narrower_of(a: usize, b: usize) -> usize
+    ensures { λ r. ⌜ r ≡ min a b ⌝ }
+{
+    if a < b { a } else { b }
+}
+
+// The first widths, up to a limit, by every range.
+fn first_widths(freqs: &[u32], a: usize, most: usize, q: Quality) -> Grown
+    requires { ⌜ Growable (now freqs) a most q ⌝ }
+    ensures { λ r. ⌜ Reached q (now (freqs .entry)) a most r ⌝ }
+{
+    let threshold = threshold_of(q);
+    let none = Ratio { top: 0, bottom: 1 };
+    let mut bounds = Bounds {
+        low: none,
+        up: none,
+        longest: 0,
+    };
+    let mut reached = Point { at: 0, count: 0 };
+    while reached.at < most {
+        let end = one_later(freqs, a, reached);
+        let wider = with_end(freqs, a, end.at, q, threshold, bounds);
+        if !passes(q, wider, class_value(end.count), end.at as u64) {
+            break;
+        }
+        bounds = wider;
+        reached = end;
+    }
+    Grown { reached, bounds }
+}
+
+// What is kept of a bound before its starts are looked at.
+fn unsearched(greatest: Ratio) -> Kept
+    ensures { λ r. ⌜ r ≡ unsearched greatest ⌝ }
+{
+    let first = Point { at: 0, count: 0 };
+    Kept {
+        greatest,
+        lowest: first,
+        light: first,
+    }
+}
+
+fn bounds_of(low: Kept, up: Kept, longest: u64) -> Bounds
+    ensures { λ r. ⌜ r ≡ bounds (low .greatest) (up .greatest) longest ⌝ }
+{
+    let low_greatest = low.greatest;
+    let up_greatest = up.greatest;
+    Bounds {
+        low: low_greatest,
+        up: up_greatest,
+        longest,
+    }
+}
+
+// The length of the longest light range, with those of one more end: the longest of these is from the first light start.
+fn longest_of(longest: u64, light: usize, end: usize) -> u64
+    requires { ⌜ light ≤ end ⌝ }
+    ensures { λ r. ⌜ r ≡ max longest (end - light) ⌝ }
+{
+    arithmetic::larger_of_wide(longest, (end - light) as u64)
+}
+
+// The width, from one on up to which every width fits.
+fn width_from(freqs: &[u32], a: usize, most: usize, q: Quality, known: Grown) -> usize
+    requires { ⌜ Continued q (now freqs) a most known ⌝ }
+    ensures { λ r. ⌜ r ≡ width q (now (freqs .entry)) a most ⌝ }
+{
+    let low_bound = Bound {
+        over: Over::Length,
+        threshold: q.theta,
+    };
+    let up_bound = Bound {
+        over: Over::Count,
+        threshold: threshold_of(q),
+    };
+    let bounds = known.bounds;
+    let low_known = bounds.low;
+    let up_known = bounds.up;
+    let mut low = unsearched(low_known);
+    let mut up = unsearched(up_known);
+    let mut longest = bounds.longest;
+    let mut grown = known.reached;
+    while grown.at < most {
+        let end = one_later(freqs, a, grown);
+        low = widened(freqs, a, low_bound, low, end);
+        up = widened(freqs, a, up_bound, up, end);
+        longest = longest_of(longest, up.light.at, end.at);
+        if !passes(
+            q,
+            bounds_of(low, up, longest),
+            class_value(end.count),
+            end.at as u64,
+        ) {
+            break;
+        }
+        grown = end;
+    }
+    grown.at
+}
+
+// The width of the bucketlet at entry a. Kept from width to width: the greatest count/length of the ranges with a count above theta; of those whose
+// count times q is above theta the greatest length/count; and the length of the longest of the others, whose estimate may be up to theta.
 pub(crate) fn grow(freqs: &[u32], a: usize, most: usize, q: Quality) -> usize
     requires { ⌜ Growable (now freqs) a most q ⌝ }
     ensures { λ r. ⌜ r ≡ width q (now (freqs .entry)) a most ⌝ }
 {
-    let mut bounds = Bounds {
-        low: Ratio { top: 0, bottom: 1 },
-        up: Ratio { top: 0, bottom: 1 },
-    };
-    let mut total: u64 = 0;
-    let mut w: usize = 0;
-    while w < most {
-        total += arithmetic::wide(freqs[a + w]);
-        bounds = widened(freqs, a, w, q, bounds);
-        let next = w + 1;
-        if !passes(q, bounds, class_value(total), next as u64) {
-            break;
-        }
-        w = next;
+    let few = narrower_of(most, FEW);
+    let known = first_widths(freqs, a, few, q);
+    if known.reached.at < few {
+        return known.reached.at;
     }
-    w
+    width_from(freqs, a, most, q, known)
 }

@@ -1,7 +1,9 @@
-//! The benchmark: times of the proved calls beside the same algorithms in Rust, of the checker beside one that tries
-//! every pair of ends too, of searches and worksheets beside single calls, of journals, and what the histograms are
-//! worth beside others of the same size. It measures and fails by no time; that the sides answer alike is asserted.
+//! The benchmark: times of the proved calls beside the same algorithms in Rust, of the builder beside the paper's
+//! Figure 6 and of the checker beside one that tries every pair of ends too, of searches and worksheets beside single
+//! calls, of journals, and what the histograms are worth beside others of the same size. It measures and fails by no
+//! time; that the sides answer alike is asserted.
 
+mod builds;
 mod checks;
 mod clock;
 mod journals;
@@ -21,6 +23,8 @@ pub fn run(proved: &impl Program, real: Vec<List>) {
     println!("{}\n", machine());
     let lists = lists::all(real);
     times::print(proved, &lists);
+    println!();
+    builds::print(proved, &lists);
     println!();
     checks::print(proved, &lists);
     println!();

@@ -1,4 +1,5 @@
-//! Times of the proved calls beside the same algorithms in Rust; `checks`, `worksheets` and `journals` have the others.
+//! Times of the proved calls beside the same algorithms in Rust; `builds`, `checks`, `worksheets` and `journals` have
+//! the others.
 
 use super::clock::{measure, timed, Row, Run, PASSES, ROUNDS};
 use super::lists::{ranges, restless, List};
@@ -20,27 +21,13 @@ const ASKED: usize = 64;
 const LEAST_RUN: Duration = Duration::from_millis(1);
 
 pub const PEER: Peer = Peer(Ranges::Fewer);
-const FIGURE_6: Peer = Peer(Ranges::Every);
 
-const HEAD: [&str; 10] = [
-    "call",
-    "list",
-    "cleared before",
-    "theta",
-    "buckets",
-    "proved",
-    "Rust",
-    "proved / Rust",
-    "Figure 6",
-    "proved / Figure 6",
-];
-
-const NOTHING: &str = "nothing is lent";
+const HEAD: [&str; 7] = ["call", "list", "theta", "buckets", "proved", "Rust", "proved / Rust"];
 
 /// A list with its histogram.
 pub struct Case<'a> {
     pub list: &'a List,
-    bound: Bound,
+    pub bound: Bound,
     pub words: Vec<u32>,
 }
 
@@ -48,11 +35,6 @@ impl<'a> Case<'a> {
     pub fn new(proved: &dyn Program, list: &'a List, theta: u32) -> Case<'a> {
         let bound = Bound::new(theta, 2, 1);
         Case { list, bound, words: built(proved, &list.frequencies, bound) }
-    }
-
-    fn cells(&self, call: &str, cleared: &str) -> Vec<String> {
-        let [list, theta, buckets] = self.about();
-        vec![call.to_string(), list, cleared.to_string(), theta, buckets]
     }
 
     /// The list's name, theta and the number of buckets.
@@ -95,7 +77,7 @@ fn coding<'a>(
         })
     }
     assert!(inputs.iter().all(|&input| proved(input) == peer(input)), "{call}: the sides answer alike");
-    let cells = [call, "counts of all sizes", NOTHING, "", ""].map(String::from).to_vec();
+    let cells = [call, "counts of all sizes", "", ""].map(String::from).to_vec();
     Row::new(cells, vec![run(inputs, proved), run(inputs, peer)], inputs.len())
 }
 
@@ -115,19 +97,6 @@ fn codings<'a, P: Program>(proved: &'a P, [counts, classes, codes]: &'a [Vec<u32
         coding("code_of_total", counts, |c| proved.code_of_total(c), |c| PEER.code_of_total(c)),
         coding("number_of_total", codes, |c| proved.number_of_total(c), |c| PEER.number_of_total(c)),
     ]
-}
-
-fn build<'a>(proved: &'a dyn Program, case: &'a Case) -> Row<'a> {
-    let run = |program: &'a dyn Program| -> Run<'a> {
-        let (frequencies, bound) = (&case.list.frequencies[..], case.bound);
-        assert!(built(program, frequencies, bound) == case.words, "the sides build alike");
-        let mut lent = vec![0; case.words.len()];
-        Box::new(move || {
-            lent.fill(0);
-            timed(|| program.build(frequencies, bound, &mut lent))
-        })
-    };
-    Row::new(case.cells("build", "the lent words"), vec![run(proved), run(&PEER), run(&FIGURE_6)], 1)
 }
 
 /// A question to a histogram.
@@ -155,7 +124,8 @@ fn asking<'a, Q: Copy + 'a>(
         let questions = questions.clone();
         Box::new(move || timed(|| (0..repeats).for_each(|_| all(program, &questions))))
     };
-    Row::new(case.cells(call, NOTHING), vec![run(proved), run(&PEER)], repeats * questions.len())
+    let cells = [&[call.to_string()], &case.about()[..]].concat();
+    Row::new(cells, vec![run(proved), run(&PEER)], repeats * questions.len())
 }
 
 fn estimate<'a>(proved: &'a dyn Program, case: &'a Case) -> Row<'a> {
@@ -175,41 +145,28 @@ fn explain() {
         "\
 Times of one call with q 2: the shortest of at least {runs} runs of each side, spread over {PASSES} passes through
 all rows. The sides of a row take turns in one process. \"proved\" is the library; \"Rust\" is the same algorithm in
-Rust, optimised as a whole and without overflow checks; \"Figure 6\" is that builder with every range, as the paper
-prints it. All sides answer alike, and are called and not inlined into the caller. Words lent to a build are set to
-0 before each run, outside of the time; the other calls only read, and what they read stays in the cache. A run of a
-coding has {coded} calls, one of estimate or find has {ASKED} ranges or entries, repeated for a millisecond.
-\"flat\" has 65,536 frequencies of 10, \"random\" as many of 1 to 100, \"steep\" as many that fall as 60,000,000 /
-rank, \"sparse\" as many of which 99 in 100 are 0 and the others 1 to 100, and \"restless\" as many of 1 and 1,000 in
-turn, so that each bucketlet has one entry.
+Rust, optimised as a whole and without overflow checks. All sides answer alike, and are called and not inlined into the
+caller. These calls only read, and what they read stays in the cache. A run of a coding has {coded} calls, one of
+estimate or find has {ASKED} ranges or entries, repeated for a millisecond. \"flat\" has 65,536 frequencies of 10,
+\"random\" as many of 1 to 100, \"steep\" as many that fall as 60,000,000 / rank, \"sparse\" as many of which 99 in 100
+are 0 and the others 1 to 100, and \"restless\" as many of 1 and 1,000 in turn, so that with a small theta each
+bucketlet has one entry.
 ",
         runs = PASSES * ROUNDS,
         coded = grouped(CODED as u64)
     );
 }
 
-fn show(rows: &[Row]) {
-    let mut table = Table::new(HEAD.map(String::from).to_vec());
-    for row in rows {
-        let mut cells = row.compared();
-        cells.resize(HEAD.len(), String::new());
-        table.add(cells);
-    }
-    table.print(3);
-}
-
 pub fn print<P: Program>(proved: &P, lists: &[List]) {
     let (codes, restless) = (codes(), restless());
-    let cases = |theta: u32| -> Vec<Case> { lists.iter().map(|list| Case::new(proved, list, theta)).collect() };
-    let [small, middle, large] = [20, 100, 1_000].map(cases);
+    let cases: Vec<Case> = lists.iter().map(|list| Case::new(proved, list, 100)).collect();
     let most_buckets = Case::new(proved, &restless, 1);
     let mut rows = Vec::from(codings(proved, &codes));
-    for place in 0..lists.len() {
-        rows.extend([&small, &middle, &large].map(|cases| build(proved, &cases[place])));
-    }
-    rows.extend(middle.iter().chain([&most_buckets]).map(|case| estimate(proved, case)));
+    rows.extend(cases.iter().chain([&most_buckets]).map(|case| estimate(proved, case)));
     rows.push(find(proved, &most_buckets));
     measure(&mut rows);
     explain();
-    show(&rows);
+    let mut table = Table::new(HEAD.map(String::from).to_vec());
+    rows.iter().for_each(|row| table.add(row.compared()));
+    table.print(2);
 }

@@ -61,6 +61,7 @@ impl Broken {
                 let wider = Bound::new(bound.theta, 8 * bound.qn + bound.qd, 8 * bound.qd);
                 grow(RIGHT.0, rest, limit, wider)
             }
+            _ if self.is_of_a_start() => self.grown(rest, limit, bound),
             _ => grow(RIGHT.0, rest, limit, bound),
         }
     }

@@ -5,7 +5,8 @@
 //! places, answers and worksheets of request (i), those about searches, their number of ranges and
 //! their order of request (ii), those about journals, their lines and bounds of request (vii), many of
 //! which break what request (viii) says too, and those of a checker that goes over a bucketlet in one
-//! pass, from `FirstStartLeftOut` to `NarrowOnesPassedOver`, of request (xiii).
+//! pass, from `FirstStartLeftOut` to `NarrowOnesPassedOver`, of request (xiii). Those from `CountOfThetaHeavy` to
+//! `BoundsIn32Bits` are missteps of a builder that keeps one start for each bound.
 //! Histograms whose classes or totals are others within q are accepted, but do not keep to request (vi),
 //! nor does an estimate by classes that are too low.
 
@@ -16,6 +17,7 @@ mod listing;
 mod passes;
 mod searches;
 mod slips;
+mod starts;
 mod worksheets;
 
 use crate::build::Way;
@@ -54,6 +56,26 @@ faults! {
     ClassLowerWithinQ: "build",
     TotalHighestWithinQ: "build",
     TotalLowestWithinQ: "build",
+    CountOfThetaHeavy: "build",
+    CountOfAQthHeavy: "build",
+    ThetaForBothBounds: "build",
+    QthForBothBounds: "build",
+    QthRoundedUp: "build",
+    LowestNeverReplaced: "build",
+    LowestAlwaysReplaced: "build",
+    LowestNotRenewed: "build",
+    LowestTakenUnsearched: "build",
+    FirstSteeperTaken: "build",
+    FirstStartNotSearched: "build",
+    NearestStartNotSearched: "build",
+    LightStartSearched: "build",
+    SearchOneShort: "build",
+    SplitAtTheThreshold: "build",
+    LongestLeftOut: "build",
+    LongestNotKept: "build",
+    LongestOneShort: "build",
+    LongestOneLong: "build",
+    BoundsIn32Bits: "build",
     WholeExcused: "check",
     ByEndThenStart: "check",
     TotalsNotChecked: "check",

@@ -3,7 +3,7 @@
 use super::calls::most_words;
 use super::Group::*;
 use super::{Asking, Comparison, Group};
-use crate::build::Way;
+use crate::build::{Way, WAYS};
 use crate::coding::{class_for, code_for};
 use crate::generate::damage::damaged;
 use crate::generate::foreign::wild;
@@ -146,7 +146,7 @@ impl Comparison<'_> {
     }
 
     fn faster_ways_agree(&mut self, frequencies: &[u32], bound: Bound) {
-        self.ways_agree(&[Way::Figure6, Way::FewerRanges], frequencies, bound);
+        self.ways_agree(&WAYS[1..], frequencies, bound);
     }
 
     pub(super) fn large_lists(&mut self) {

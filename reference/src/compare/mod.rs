@@ -13,6 +13,7 @@ mod sharper;
 mod sheets;
 mod slips;
 mod small;
+mod starts;
 mod worksheets;
 mod zeros;
 
@@ -53,6 +54,8 @@ groups! {
     BuildZeros: "build: lists with zeros",
     BuildRefused: "build: refusals and lent words",
     BuildSlips: "build: q about 8",
+    BuildStarts: "build: short lists aimed at a lowest start",
+    BuildLongStarts: "build: long lists aimed at a lowest start",
     BuildDirected: "build: lists directed at the sharper rule",
     BuildWholes: "build: whole bucketlets and buckets within 5/4",
     CheckBuilt: "check: built histograms",
@@ -197,6 +200,8 @@ pub struct Volume {
     pub ks_of_several: usize,
     /// How many bucketlets are aimed at a checker that does not try every pair, of each sort, width and place.
     pub aimed: usize,
+    /// How many short lists are aimed at a builder that keeps one start for each bound, of each sort and length.
+    pub starts: usize,
     pub sheets: usize,
     /// The last qd beside which each q about 8 is tried.
     pub last_qd: u32,
@@ -222,6 +227,7 @@ impl Volume {
         near: 60,
         ks_of_several: KS.len(),
         aimed: 40,
+        starts: 300,
         sheets: 3_000,
         last_qd: LAST_QD,
         lines: 3,
@@ -242,6 +248,7 @@ impl Volume {
         near: 1,
         ks_of_several: 1,
         aimed: 2,
+        starts: 10,
         sheets: 120,
         last_qd: 4,
         lines: 2,
@@ -352,6 +359,7 @@ impl<'a> Comparison<'a> {
         self.part("every bit", Comparison::every_bit);
         self.part("random words", Comparison::random_words);
         self.part("bucketlets aimed at a pass", Comparison::aimed_at_a_pass);
+        self.part("lists aimed at a lowest start", Comparison::aimed_at_starts);
         self.part("directed lists", Comparison::directed_lists);
         self.part("the sharper rule", Comparison::lists_near_the_sharper_rule);
         self.part("worksheets", Comparison::worksheets);
@@ -372,6 +380,12 @@ impl<'a> Comparison<'a> {
     /// Only the part that is aimed at a checker which does not try every pair of ends.
     pub fn run_passes(&mut self) -> bool {
         self.part("bucketlets aimed at a pass", Comparison::aimed_at_a_pass);
+        self.report()
+    }
+
+    /// Only the part that is aimed at a builder which keeps one start for each bound.
+    pub fn run_starts(&mut self) -> bool {
+        self.part("lists aimed at a lowest start", Comparison::aimed_at_starts);
         self.report()
     }
 

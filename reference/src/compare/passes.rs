@@ -174,10 +174,21 @@ impl Comparison<'_> {
                 }
             }
         }
-        for (group, mark) in TO_MEET.into_iter().flat_map(|(group, all)| all.iter().map(move |&mark| (group, mark))) {
+        self.met_often(&TO_MEET);
+    }
+
+    /// Fails a group that seldom met what it is there for.
+    pub(super) fn met_often(&mut self, to_meet: &[(Group, &[&'static str])]) {
+        for (group, mark) in to_meet.iter().flat_map(|&(group, marks)| marks.iter().map(move |&mark| (group, mark))) {
             let times = self.marks.get(&(group as usize, mark)).copied().unwrap_or(0);
             let seldom = times < self.volume.outcomes;
             self.note(group, seldom.then(|| format!("{mark}: only {times} times")));
+        }
+    }
+
+    pub(super) fn mark(&mut self, group: Group, marks: Vec<&'static str>) {
+        for mark in marks {
+            *self.marks.entry((group as usize, mark)).or_default() += 1;
         }
     }
 
@@ -203,8 +214,6 @@ impl Comparison<'_> {
         if fails_inside {
             marks.extend(marks_of_place(&placed));
         }
-        for mark in marks {
-            *self.marks.entry((group as usize, mark)).or_default() += 1;
-        }
+        self.mark(group, marks);
     }
 }

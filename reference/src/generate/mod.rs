@@ -11,6 +11,7 @@ pub mod ranges;
 pub mod searches;
 pub mod sharper;
 pub mod slips;
+pub mod starts;
 pub mod worksheets;
 
 /// Every list of so many numbers below `kinds`.

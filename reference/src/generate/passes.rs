@@ -72,7 +72,7 @@ fn at_ends(first: u64, last: u64, entries: u64) -> Vec<u32> {
 }
 
 /// A sum among so many entries: evenly, or with zeros between.
-fn shaped(shape: u64, sum: u64, entries: u64) -> Vec<u32> {
+pub(super) fn shaped(shape: u64, sum: u64, entries: u64) -> Vec<u32> {
     match shape {
         0 => at_ends(sum.div_ceil(2), sum / 2, entries),
         1 => at_ends(sum.min(1), sum - sum.min(1), entries),
@@ -81,7 +81,7 @@ fn shaped(shape: u64, sum: u64, entries: u64) -> Vec<u32> {
     }
 }
 
-fn some_shape(random: &mut Random) -> u64 {
+pub(super) fn some_shape(random: &mut Random) -> u64 {
     random.below(6)
 }
 

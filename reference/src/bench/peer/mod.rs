@@ -15,8 +15,8 @@ use crate::program::*;
 /// Which ranges of a bucketlet are looked at.
 #[derive(Clone, Copy, Debug, PartialEq, Eq)]
 pub enum Ranges {
-    /// As in the proved calls. The builder leaves out those that split into two with counts above theta; the checker
-    /// finds by a pass from which entry on there is one that fails.
+    /// As in the proved calls. The builder looks at the range from one start for each bound, and at others only where
+    /// that one moves the bound; the checker finds by a pass from which entry on there is one that fails.
     Fewer,
     /// All: as in the paper's Figure 6, and every pair of ends.
     Every,
