@@ -145,9 +145,10 @@ fn searched(freqs: &[u32], a: usize, b: Bound, known: Kept, end: Point) -> Kept
     let over = b.over;
     let light = known.light;
     let greatest = greatest_found(freqs, a, b, known, end);
+    let start = start_of(over, greatest, end);
     Kept {
         greatest,
-        lowest: start_of(over, greatest, end),
+        lowest: start,
         light,
     }
 }
