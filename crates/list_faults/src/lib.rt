@@ -43,6 +43,7 @@ pub fn q_large(qn: u32, qd: u32) -> bool
 }
 
 // The sum of at most 65,536 frequencies.
+#[tactic(auto, using(laws::proofs::SumsLaws::all_added, laws::proofs::SumsLaws::prefix_all))]
 fn sum_of(freqs: &[u32]) -> u64
     requires { length freqs.now ≤ max_entries }
     ensures { result ≡ sum freqs.now }
@@ -57,6 +58,7 @@ fn sum_of(freqs: &[u32]) -> u64
 }
 
 // 1 or 3 if that sentence is true of the list and none before it is, else 0. The first is decided by the length alone.
+#[tactic(auto, unfolding(laws::specs::Refusal::refusal, list_rules::specs::Frequencies::entries_fault, list_rules::specs::Frequencies::sum_fault))]
 pub fn list_fault(freqs: &[u32]) -> u32
     ensures { result ≡ list_fault freqs.now }
 {
@@ -73,6 +75,7 @@ pub fn list_fault(freqs: &[u32]) -> u32
 }
 
 // 4, 5 or 24 if that sentence is true of theta and q and none before it is, else 0.
+#[tactic(auto, unfolding(laws::specs::Refusal::refusal))]
 pub fn quality_fault(theta: u32, qn: u32, qd: u32) -> u32
     ensures { result ≡ refusal (quality_sentences theta qn qd) }
 {
@@ -89,6 +92,7 @@ pub fn quality_fault(theta: u32, qn: u32, qd: u32) -> u32
 }
 
 // 1, 3, 4, 5 and 24: the first of these sentences that is true of what the builder is given, else 0.
+#[tactic(auto, unfolding(laws::specs::Refusal::refusal, list_rules::specs::Frequencies::entries_fault, list_rules::specs::Frequencies::sum_fault))]
 pub fn input_fault(freqs: &[u32], theta: u32, qn: u32, qd: u32) -> u32
     ensures { result ≡ refusal (input_sentences freqs.now theta qn qd) }
 {
