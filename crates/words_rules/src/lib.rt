@@ -17,7 +17,7 @@ pub fn sizes() -> [usize; 2]
 }
 
 // What the head words hold: d, theta, q as qn/qd, and the number of buckets.
-#[derive(Drop)]
+#[derive(Clone, Copy)]
 pub struct Head {
     pub entries: u32,
     pub theta: u32,
@@ -28,7 +28,7 @@ pub struct Head {
 
 // A decoded bucket. The flag says that the eighth bucketlet is the free one, and not the first; the total is its code, which goes back
 // into the words as it is.
-#[derive(Drop)]
+#[derive(Clone, Copy)]
 pub struct Bucket {
     pub widths: [u32; 8],
     pub classes: [u32; 8],
