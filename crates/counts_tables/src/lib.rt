@@ -6,6 +6,7 @@ ghost use Rattle.std.specs.Prelude.{◌≡◌, get_or};
 ghost use Rattle.counts_rules.specs.Private.Tables.{class_starts, class_numbers};
 ghost use Rattle.counts_tables.specs.Entries.{start_of, number_of};
 
+#[tactic(none)]
 fn start_entry(class: u32) -> u32
     ensures { result ≡ get_or class_starts class 0 }
 {
@@ -78,6 +79,7 @@ fn start_entry(class: u32) -> u32
     }
 }
 
+#[tactic(none)]
 fn number_entry(class: u32) -> u32
     ensures { result ≡ get_or class_numbers class 0 }
 {

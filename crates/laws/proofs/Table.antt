@@ -36,3 +36,7 @@ none_of_past x (suc n) h = let l = none_of_past x n h.0 in let e = h.1 in omega 
 -- so it reads past the table
 pub past : (xs : List ℕ) (x : ℕ) → NoneOf x (length xs) → 0 ≡ get_or xs x 0
 past xs x h = sym (get_or-eq_default xs 0 (none_of_past x (length xs) h))
+
+-- an arm of a `match` on a number reads the entry at that number
+pub entry : (xs : List ℕ) (x : ℕ) {n v : ℕ} → x ≡ n → v ≡ get_or xs n 0 → v ≡ get_or xs x 0
+entry xs x {n} {v} e h = subst (λ (m : ℕ). v ≡ get_or xs m 0) (sym e) h
