@@ -3,28 +3,28 @@
 #![tactic(auto)]
 
 // top / bottom
-#[derive(Drop)]
+#[derive(Clone, Copy)]
 pub struct Ratio {
     pub top: u64,
     pub bottom: u64,
 }
 
 // What the fraction of a range is divided by: its count is divided by its length, or its length by its count.
-#[derive(Drop)]
+#[derive(Clone, Copy)]
 pub enum Over {
     Length,
     Count,
 }
 
 // Which ranges bound a bucketlet's number over its width, by their fractions: those with a count above `threshold`, the heavy ones.
-#[derive(Drop)]
+#[derive(Clone, Copy)]
 pub struct Bound {
     pub over: Over,
     pub threshold: u64,
 }
 
 // A point between the entries of a bucketlet: so many stand before it, with this count.
-#[derive(Drop)]
+#[derive(Clone, Copy)]
 pub struct Point {
     pub at: usize,
     pub count: u64,
@@ -32,7 +32,7 @@ pub struct Point {
 
 // What is kept of the heavy ranges while their end moves on. `greatest` is the greatest of their fractions, 0 if there is none. Every start before `light` is
 // heavy for the end in hand, and of these `lowest` is the one from which a range exceeds `greatest` if one does from any.
-#[derive(Drop)]
+#[derive(Clone, Copy)]
 pub struct Kept {
     pub greatest: Ratio,
     pub lowest: Point,
@@ -41,7 +41,7 @@ pub struct Kept {
 
 // What the ranges of a bucketlet ask of its number over its width: the greatest count/length of those with a count above theta, the greatest length/count of
 // those whose count times q is above theta, and the length of the longest of the others.
-#[derive(Drop)]
+#[derive(Clone, Copy)]
 pub struct Bounds {
     pub low: Ratio,
     pub up: Ratio,
@@ -49,7 +49,7 @@ pub struct Bounds {
 }
 
 // A width that has been reached, and the bounds of its ranges.
-#[derive(Drop)]
+#[derive(Clone, Copy)]
 pub struct Grown {
     pub reached: Point,
     pub bounds: Bounds,

@@ -3,7 +3,7 @@
 #![tactic(auto)]
 
 // What fails: a whole bucketlet, a part of one, or a bucket's total.
-#[derive(Drop)]
+#[derive(Clone, Copy)]
 pub enum Sort {
     Bucketlet,
     Part,
@@ -11,7 +11,7 @@ pub enum Sort {
 }
 
 // A range of entries that fails.
-#[derive(Drop)]
+#[derive(Clone, Copy)]
 pub struct Failing {
     pub start: u32,
     pub end: u32,
@@ -19,7 +19,7 @@ pub struct Failing {
 }
 
 // The number of the refusal, or accepted, or what fails first.
-#[derive(Drop)]
+#[derive(Clone, Copy)]
 pub enum Verdict {
     Refused(u32),
     Accepted,

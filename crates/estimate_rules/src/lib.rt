@@ -3,7 +3,7 @@
 #![tactic(auto)]
 
 // whole + top / bottom
-#[derive(Drop)]
+#[derive(Clone, Copy)]
 pub struct Fraction {
     pub whole: u64,
     pub top: u64,

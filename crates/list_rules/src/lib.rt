@@ -3,7 +3,7 @@
 #![tactic(auto)]
 
 // Theta, and q as qn/qd.
-#[derive(Drop)]
+#[derive(Clone, Copy)]
 pub struct Quality {
     pub theta: u64,
     pub qn: u64,

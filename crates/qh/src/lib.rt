@@ -28,14 +28,14 @@ use journal::Replayed;
 use sheet_rules::SHEET_BYTES;
 
 #[repr(C)]
-#[derive(Drop)]
+#[derive(Clone, Copy)]
 pub struct QhCoded {
     pub refusal: u32,
     pub value: u32,
 }
 
 #[repr(C)]
-#[derive(Drop)]
+#[derive(Clone, Copy)]
 pub struct QhBuilt {
     pub refusal: u32,
     pub words: usize,
@@ -43,7 +43,7 @@ pub struct QhBuilt {
 
 // accepted is 1 or 0; sort is that of what fails first, 1 for a bucketlet, 2 for a part of one, 3 for a bucket.
 #[repr(C)]
-#[derive(Drop)]
+#[derive(Clone, Copy)]
 pub struct QhVerdict {
     pub refusal: u32,
     pub accepted: u32,
@@ -53,35 +53,35 @@ pub struct QhVerdict {
 }
 
 #[repr(C)]
-#[derive(Drop)]
+#[derive(Clone, Copy)]
 pub struct QhEstimate {
     pub refusal: u32,
     pub estimate: u64,
 }
 
 #[repr(C)]
-#[derive(Drop)]
+#[derive(Clone, Copy)]
 pub struct QhFilled {
     pub refusal: u32,
     pub places: usize,
 }
 
 #[repr(C)]
-#[derive(Drop)]
+#[derive(Clone, Copy)]
 pub struct QhAnswered {
     pub refusal: u32,
     pub answers: usize,
 }
 
 #[repr(C)]
-#[derive(Drop)]
+#[derive(Clone, Copy)]
 pub struct QhFound {
     pub refusal: u32,
     pub at: usize,
 }
 
 #[repr(C)]
-#[derive(Drop)]
+#[derive(Clone, Copy)]
 pub struct QhReplayed {
     pub refusal: u32,
     pub sum: u32,

@@ -19,7 +19,7 @@ use sheet_rules::{MAX_SHEET_WORDS, SHEET_BYTES};
 
 // How many bytes are printed, and what the input is refused with: the number, or 0, and for 18 the line where it stops being as described, else 0.
 // A refusal is printed too.
-#[derive(Drop)]
+#[derive(Clone, Copy)]
 pub struct Printed {
     pub refusal: u32,
     pub line: usize,
