@@ -8,6 +8,7 @@ ghost use Rattle.words_rules.specs.Reading.{head_good, words_broken, widths_brok
 use words_rules::{BUCKET_WORDS, Bucket, Head};
 
 // Whether d, theta, q and the number of buckets are within their limits.
+#[tactic(auto, unfolding(words_rules::specs::Reading::head_good))]
 pub fn head_good(head: Head) -> bool
     ensures { result ≡ head_good head }
 {
@@ -24,6 +25,7 @@ pub fn head_good(head: Head) -> bool
 }
 
 // Whether one of a bucket's words has a wrong kind or a set bit outside its fields: the three bits below the kind of the last two are 0.
+#[tactic(auto, unfolding(words_rules::specs::Reading::words_broken))]
 pub fn words_broken(packed: [u32; BUCKET_WORDS]) -> bool
     ensures { result ≡ words_broken packed }
 {
@@ -46,6 +48,7 @@ pub fn words_broken(packed: [u32; BUCKET_WORDS]) -> bool
 }
 
 // Whether the listed widths exceed the span, or leave more than 4,095 of it. They are compared before they are taken from it.
+#[tactic(auto, unfolding(words_rules::specs::Reading::widths_broken))]
 pub fn widths_broken(span: u32, listed: u32) -> bool
     ensures { result ≡ widths_broken span listed }
 {
@@ -56,6 +59,7 @@ pub fn widths_broken(span: u32, listed: u32) -> bool
 }
 
 // Whether a class is one that no count has, or is not 0 where the width is.
+#[tactic(auto, unfolding(words_rules::specs::Reading::class_broken))]
 pub fn class_broken(width: u32, class: u32) -> bool
     ensures { result ≡ class_broken width class }
 {
@@ -66,6 +70,7 @@ pub fn class_broken(width: u32, class: u32) -> bool
 }
 
 // Whether one of the eight classes is not 0.
+#[tactic(auto, using(crate::proofs::FoundLaws::passed_class, laws::proofs::EachLaws::none_found))]
 fn some_class(bucket: Bucket) -> bool
     ensures { result ≡ some_class bucket }
 {
@@ -80,6 +85,7 @@ fn some_class(bucket: Bucket) -> bool
 }
 
 // Whether the total code is not valid; 0 belongs to eight classes 0.
+#[tactic(auto, unfolding(words_rules::specs::Reading::total_broken, counts_rules::specs::Total::valid_fields))]
 fn total_broken(bucket: Bucket) -> bool
     ensures { result ≡ total_broken bucket }
 {
@@ -90,6 +96,7 @@ fn total_broken(bucket: Bucket) -> bool
 }
 
 // Whether a bucket has a class or a total code that is not valid where it stands.
+#[tactic(auto, using(crate::proofs::FoundLaws::passed_code, crate::proofs::FoundLaws::total_left))]
 pub fn codes_broken(bucket: Bucket) -> bool
     ensures { result ≡ codes_broken bucket }
 {
