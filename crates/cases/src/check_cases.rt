@@ -3,9 +3,10 @@
 use super::lists::{TENS, TENS_WORDS, ZEROS_WORDS, tens_with, zeros_under, zeros_with};
 use super::print::report;
 use check_rules::{Sort, Verdict};
+use std::io::Stdout;
 
 // Sort 0: nothing fails.
-#[derive(Drop)]
+#[derive(Clone, Copy)]
 pub(crate) struct Answer {
     refusal: u32,
     sort: u32,
@@ -54,23 +55,25 @@ fn answered(verdict: Verdict) -> Answer {
     }
 }
 
-pub(crate) fn check(what: &[u8], freqs: &[u32], words: &[u32], expected: Answer) {
+pub(crate) fn check(out: &Stdout, what: &[u8], freqs: &[u32], words: &[u32], expected: Answer) {
     let got = answered(checker::check(freqs, words));
-    report(what, expected.refusal, got.refusal);
-    report(b"  sort", expected.sort, got.sort);
-    report(b"  start", expected.start, got.start);
-    report(b"  end", expected.end, got.end);
+    report(out, what, expected.refusal, got.refusal);
+    report(out, b"  sort", expected.sort, got.sort);
+    report(out, b"  start", expected.start, got.start);
+    report(out, b"  end", expected.end, got.end);
 }
 
-fn checks() {
-    check(b"four tens", &TENS, &TENS_WORDS, accepted());
+fn checks(out: &Stdout) {
+    check(out, b"four tens", &TENS, &TENS_WORDS, accepted());
     check(
+        out,
         b"10, 10, 10, 100",
         &[10, 10, 10, 100],
         &TENS_WORDS,
         fails(Sort::Bucketlet, 0, 4),
     );
     check(
+        out,
         b"a total that is far off",
         &TENS,
         &tens_with(6, 0x80000FE0),
@@ -79,27 +82,31 @@ fn checks() {
 }
 
 // Words that no longer occur: class 0 stands for them alone.
-fn zeros() {
-    check(b"three zeros", &[0; 3], &ZEROS_WORDS, accepted());
+fn zeros(out: &Stdout) {
+    check(out, b"three zeros", &[0; 3], &ZEROS_WORDS, accepted());
     check(
+        out,
         b"and one of them found again",
         &[0, 1, 0],
         &ZEROS_WORDS,
         fails(Sort::Bucketlet, 0, 3),
     );
     check(
+        out,
         b"three zeros with the total 1",
         &[0; 3],
         &zeros_with(6, 0x80000020),
         fails(Sort::Bucket, 0, 3),
     );
     check(
+        out,
         b"four tens as class 0",
         &TENS,
         &tens_with(5, 0x80000000),
         fails(Sort::Part, 0, 1),
     );
     check(
+        out,
         b"0, 5, 7 as class 0, with theta 10",
         &[0, 5, 7],
         &zeros_under(10, 0x80000180),
@@ -108,29 +115,45 @@ fn zeros() {
 }
 
 // The list is looked at first, then the words, and last whether their numbers of entries agree.
-fn refusals() {
-    check(b"no entry", &[], &TENS_WORDS, refused(1));
-    check(b"five entries for four", &[10; 5], &TENS_WORDS, refused(13));
+fn refusals(out: &Stdout) {
+    check(out, b"no entry", &[], &TENS_WORDS, refused(1));
     check(
+        out,
+        b"five entries for four",
+        &[10; 5],
+        &TENS_WORDS,
+        refused(13),
+    );
+    check(
+        out,
         b"five entries, and class 63",
         &[10; 5],
         &tens_with(5, 0xBF000000),
         refused(12),
     );
-    check(b"q 8/1", &TENS, &tens_with(2, 8 * 1024 + 1), accepted());
     check(
+        out,
+        b"q 8/1",
+        &TENS,
+        &tens_with(2, 8 * 1024 + 1),
+        accepted(),
+    );
+    check(
+        out,
         b"q 9/1, and five entries",
         &[10; 5],
         &tens_with(2, 9 * 1024 + 1),
         refused(24),
     );
     check(
+        out,
         b"a large sum, and q 124/100",
         &[1073741823, 1],
         &tens_with(2, 124 * 1024 + 100),
         refused(3),
     );
     check(
+        out,
         b"a large sum, and q 9/1",
         &[1073741823, 1],
         &tens_with(2, 9 * 1024 + 1),
@@ -138,8 +161,8 @@ fn refusals() {
     );
 }
 
-pub(crate) fn run() {
-    checks();
-    zeros();
-    refusals();
+pub(crate) fn run(out: &Stdout) {
+    checks(out);
+    zeros(out);
+    refusals(out);
 }

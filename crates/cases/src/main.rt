@@ -14,13 +14,14 @@ mod search_cases;
 mod word_cases;
 mod worksheet_cases;
 
-fn main() {
-    count_cases::run();
-    word_cases::run();
-    build_cases::run();
-    check_cases::run();
-    estimate_cases::run();
-    search_cases::run();
-    worksheet_cases::run();
-    journal_cases::run();
+fn main(rt: HostRuntime) {
+    let out = rt.stdout();
+    count_cases::run(&out);
+    word_cases::run(&out);
+    build_cases::run(&out);
+    check_cases::run(&out);
+    estimate_cases::run(&out);
+    search_cases::run(&out);
+    worksheet_cases::run(&out);
+    journal_cases::run(&out);
 }

@@ -1,8 +1,9 @@
 // What a call answers: a refusal's number, or 0 and a value.
 
 use super::print::{report, report_wide};
+use std::io::Stdout;
 
-#[derive(Drop)]
+#[derive(Clone, Copy)]
 pub(crate) struct Reply {
     pub refusal: u32,
     pub value: u64,
@@ -19,7 +20,7 @@ pub(crate) fn refusal(number: u32) -> Reply {
     }
 }
 
-pub(crate) fn report_reply(what: &[u8], value: &[u8], expected: Reply, got: Reply) {
-    report(what, expected.refusal, got.refusal);
-    report_wide(value, expected.value, got.value);
+pub(crate) fn report_reply(out: &Stdout, what: &[u8], value: &[u8], expected: Reply, got: Reply) {
+    report(out, what, expected.refusal, got.refusal);
+    report_wide(out, value, expected.value, got.value);
 }

@@ -3,31 +3,34 @@
 use super::estimate_cases::given;
 use super::lists::{TENS_WORDS, TWO_WORDS, tens_with};
 use super::reply::{Reply, answer, refusal, report_reply};
+use std::io::Stdout;
 
-fn search(what: &[u8], words: &[u32], ranges: &[u32], expected: Reply) {
+fn search(out: &Stdout, what: &[u8], words: &[u32], ranges: &[u32], expected: Reply) {
     let got = given(estimator::estimate_search(words, ranges));
-    report_reply(what, b"  estimate", expected, got);
+    report_reply(out, what, b"  estimate", expected, got);
 }
 
-fn ask(what: &[u8], ranges: &[u32], expected: Reply) {
-    search(what, &TENS_WORDS, ranges, expected);
+fn ask(out: &Stdout, what: &[u8], ranges: &[u32], expected: Reply) {
+    search(out, what, &TENS_WORDS, ranges, expected);
 }
 
 // As the single call answers.
-fn one_range() {
-    ask(b"a search of 1 to 3", &[1, 3], answer(17));
-    ask(b"0 to 4", &[0, 4], answer(40));
-    ask(b"2 to 2", &[2, 2], answer(0));
+fn one_range(out: &Stdout) {
+    ask(out, b"a search of 1 to 3", &[1, 3], answer(17));
+    ask(out, b"0 to 4", &[0, 4], answer(40));
+    ask(out, b"2 to 2", &[2, 2], answer(0));
 }
 
-fn several() {
-    ask(b"0 to 2 and 2 to 4", &[0, 2, 2, 4], answer(34));
+fn several(out: &Stdout) {
+    ask(out, b"0 to 2 and 2 to 4", &[0, 2, 2, 4], answer(34));
     ask(
+        out,
         b"0 to 1, 1 to 2 and 3 to 4, each 17/2 rounded up",
         &[0, 1, 1, 2, 3, 4],
         answer(27),
     );
     ask(
+        out,
         b"three empty ranges and one that isn't",
         &[0, 0, 0, 3, 3, 3, 4, 4],
         answer(26),
@@ -35,23 +38,34 @@ fn several() {
 }
 
 // 14 is said of each range, and first.
-fn outside() {
-    ask(b"0 to 5 and a word", &[0, 5, 7], refusal(14));
-    ask(b"3 to 2 and 2 to 4", &[3, 2, 2, 4], refusal(14));
-    ask(b"0 to 3, 2 to 5 and a word", &[0, 3, 2, 5, 7], refusal(14));
-}
-
-fn numbers() {
-    ask(b"no range", &[], refusal(22));
-    ask(b"a word", &[5], refusal(22));
-    ask(b"0 to 3, 2 to 4 and a word", &[0, 3, 2, 4, 7], refusal(22));
-}
-
-fn orders() {
-    ask(b"0 to 3 and 2 to 4", &[0, 3, 2, 4], refusal(23));
-    ask(b"3 to 3 and 2 to 4", &[3, 3, 2, 4], refusal(23));
-    ask(b"0 to 4 and 2 to 2", &[0, 4, 2, 2], refusal(23));
+fn outside(out: &Stdout) {
+    ask(out, b"0 to 5 and a word", &[0, 5, 7], refusal(14));
+    ask(out, b"3 to 2 and 2 to 4", &[3, 2, 2, 4], refusal(14));
     ask(
+        out,
+        b"0 to 3, 2 to 5 and a word",
+        &[0, 3, 2, 5, 7],
+        refusal(14),
+    );
+}
+
+fn numbers(out: &Stdout) {
+    ask(out, b"no range", &[], refusal(22));
+    ask(out, b"a word", &[5], refusal(22));
+    ask(
+        out,
+        b"0 to 3, 2 to 4 and a word",
+        &[0, 3, 2, 4, 7],
+        refusal(22),
+    );
+}
+
+fn orders(out: &Stdout) {
+    ask(out, b"0 to 3 and 2 to 4", &[0, 3, 2, 4], refusal(23));
+    ask(out, b"3 to 3 and 2 to 4", &[3, 3, 2, 4], refusal(23));
+    ask(out, b"0 to 4 and 2 to 2", &[0, 4, 2, 2], refusal(23));
+    ask(
+        out,
         b"0 to 1, 2 to 4 and 3 to 4",
         &[0, 1, 2, 4, 3, 4],
         refusal(23),
@@ -72,11 +86,12 @@ fn broken_last() -> [u32; 34] {
     ranges
 }
 
-fn sixteen() {
-    ask(b"sixteen ranges", &sixteen_ranges(), answer(40));
-    ask(b"sixteen ranges and a word", &[4; 33], refusal(22));
-    ask(b"seventeen ranges", &[4; 34], refusal(22));
+fn sixteen(out: &Stdout) {
+    ask(out, b"sixteen ranges", &sixteen_ranges(), answer(40));
+    ask(out, b"sixteen ranges and a word", &[4; 33], refusal(22));
+    ask(out, b"seventeen ranges", &[4; 34], refusal(22));
     ask(
+        out,
         b"seventeen ranges, the last from 4 to 5",
         &broken_last(),
         refusal(14),
@@ -84,15 +99,17 @@ fn sixteen() {
 }
 
 // The words are looked at first.
-fn words_first() {
-    search(b"no word and no range", &[], &[], refusal(7));
+fn words_first(out: &Stdout) {
+    search(out, b"no word and no range", &[], &[], refusal(7));
     search(
+        out,
         b"q 9/1 and no range",
         &tens_with(2, 9 * 1024 + 1),
         &[],
         refusal(24),
     );
     search(
+        out,
         b"class 63 and no range",
         &tens_with(5, 0xBF000000),
         &[],
@@ -100,8 +117,9 @@ fn words_first() {
     );
 }
 
-fn two_buckets() {
+fn two_buckets(out: &Stdout) {
     search(
+        out,
         b"2 to 4, 4 to 7 and 7 to 10 of two buckets",
         &TWO_WORDS,
         &[2, 4, 4, 7, 7, 10],
@@ -109,13 +127,13 @@ fn two_buckets() {
     );
 }
 
-pub(crate) fn run() {
-    one_range();
-    several();
-    outside();
-    numbers();
-    orders();
-    sixteen();
-    words_first();
-    two_buckets();
+pub(crate) fn run(out: &Stdout) {
+    one_range(out);
+    several(out);
+    outside(out);
+    numbers(out);
+    orders(out);
+    sixteen(out);
+    words_first(out);
+    two_buckets(out);
 }
