@@ -27,7 +27,7 @@ module _ (f : ℕ) (c : ℤ) (small : f < 2 ^ 32) (fits : SFits w32 c) where
   machine_is =
       ap (λ (z : ℤ). z +ℤ to_z w64 (of_z w64 (to_z w32 (of_z w32 c)))) (to_z_pos w64 (omega arith))
       ∙ ap (λ (z : ℤ). pos f +ℤ to_z w64 (of_z w64 z)) (to_z-of_z fits)
-      ∙ ap (λ (z : ℤ). pos f +ℤ z) (to_z-of_z (sfits_widen tt fits))
+      ∙ ap (λ (z : ℤ). pos f +ℤ z) (to_z-of_z {w = w64} (sfits_widen tt fits))
 
   pub sum_fits : SFits w64 (machine f c)
   sum_fits = subst (SFits w64) (sym machine_is) (record { sfits = sum_mag c fits.sfits })
