@@ -39,7 +39,7 @@ fn length_fault(words: &[u32]) -> bool
 }
 
 // What of a bucket is tested.
-#[derive(Drop)]
+#[derive(Clone, Copy)]
 enum Tested {
     Words,
     Widths,
