@@ -8,6 +8,7 @@ ghost use Rattle.fit.specs.Accepted.{check_fault, quality_of};
 use list_rules::Quality;
 
 // 1, 3, 7, 24 and 8 to 13: the first of these sentences that is true, else 0.
+#[tactic(auto, using(fit::proofs::FaultLaws::fault_of_list, fit::proofs::FaultLaws::fault_of_words, fit::proofs::FaultLaws::fault_of_length, fit::proofs::FaultLaws::no_fault))]
 pub fn check_fault(freqs: &[u32], words: &[u32]) -> u32
     ensures { result ≡ check_fault freqs.now words.now }
 {
