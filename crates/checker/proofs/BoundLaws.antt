@@ -137,6 +137,17 @@ module _ (fs : List ℕ) (b : Bound) where
           under_small = omega (arith, is.under, under_step, under_split 0 (p.at - 1) (omega arith) (omega (arith, is.within)), u.under_small);
         }
 
+  -- a point that is one entry before another
+  module _ (before p : Point) (is : IsPoint fs b before) (some : 0 < before.at) (e : p ≡ stepped b (get_or fs (b.start + (before.at - 1)) 0) before) where
+    pub moved : IsPoint fs b p
+    moved = subst (IsPoint fs b) (sym e) (step_point before is some)
+
+    pub moved_at : suc p.at ≡ before.at
+    moved_at = omega (arith, ap (λ (r : Point). r.at) e)
+
+    pub moved_over : p.over ≤ before.over
+    moved_over = omega (arith, ap (λ (r : Point). r.over) e)
+
   -- the numbers of a point are small
   pub over_small : Usable fs b → (p : Point) → IsPoint fs b p → p.over < 2 ^ 53
   over_small u p is = omega (arith, u.over_small, is.over, over_mono p.at b.width is.within)

@@ -12,7 +12,7 @@ ghost use Rattle.checker.specs.Private.Breaking.{stepped, Steps, Counted, FarKno
 use list_rules::Quality;
 
 // A measure of a range: so much for each of its count and so much for each of its entries.
-#[derive(Drop)]
+#[derive(Clone, Copy)]
 pub(crate) struct Measure {
     pub count: u64,
     pub entry: u64,
@@ -20,7 +20,7 @@ pub(crate) struct Measure {
 
 // A bound on the ranges of the bucketlet of this width that starts at this entry: a range breaks it if its measure `over` is above `least` and above
 // its measure `under`.
-#[derive(Drop)]
+#[derive(Clone, Copy)]
 pub(crate) struct Bound {
     pub start: usize,
     pub width: usize,
@@ -31,7 +31,7 @@ pub(crate) struct Bound {
 
 // A point between the entries of a bucketlet, with the measure `over` of those before it and the measure `under` of those after it. The sum of the two, its
 // height, is larger at the end of a range than at its start exactly if `over` of the range is above `under`.
-#[derive(Drop)]
+#[derive(Clone, Copy)]
 pub(crate) struct Point {
     pub at: usize,
     pub over: u64,
@@ -39,7 +39,7 @@ pub(crate) struct Point {
 }
 
 // The ends far from a start, such that `over` of the range is above `least`: all after `last`. Their greatest height is `highest`, 0 if there are none.
-#[derive(Drop)]
+#[derive(Clone, Copy)]
 pub(crate) struct FarEnds {
     pub last: Point,
     pub highest: u64,

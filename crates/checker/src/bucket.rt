@@ -13,6 +13,7 @@ use counts::Meaning;
 use list_rules::Quality;
 
 // What fails first of a bucketlet, given by its class. One of width 0 is empty and has no range.
+#[tactic(auto, using(check_rules::proofs::RangeLaws::empty_verdict))]
 fn bucketlet_verdict(freqs: &[u32], q: Quality, a: usize, w: usize, class: u32) -> Verdict
     requires { Classed freqs.now q a w class }
     ensures { result ≡ bucketlet_verdict q freqs.now a w (class_number base class) }

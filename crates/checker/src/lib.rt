@@ -33,6 +33,7 @@ fn buckets_verdict(freqs: &[u32], words: &[u32], q: Quality) -> Verdict
 }
 
 // Whether the histogram is accepted for the list, what fails first, or the number of the refusal.
+#[tactic(auto, using(check_rules::proofs::CheckLaws::refused_verdict, check_rules::proofs::CheckLaws::verdict_case))]
 pub fn check(freqs: &[u32], words: &[u32]) -> Verdict
     ensures reply { verdict_reply result ≡ check_reply freqs.now words.now }
     ensures case { result ≡ verdict_of (check_reply freqs.now words.now) }
