@@ -1,0 +1,13 @@
+-- The loop of `estimator::search::order_fault`: no range up to i starts before the one ahead of it ends, and what is left of the ranges gets less.
+-- Assumes nothing.
+use Rattle.std.proofs.Common.{◌-◌}
+use Rattle.laws.proofs.EachLaws.{NoneBefore}
+use Rattle.estimate_rules.specs.Ranges.{range_count}
+use Rattle.estimate_rules.specs.Search.{starts_early}
+use Rattle.estimator.proofs.search.order_fault.Given as goal
+
+abbrev pub invariant-loop-i : goal.invariant-loop-i
+invariant-loop-i l = NoneBefore (range_count l.ranges - 1) (starts_early l.ranges) l.i
+
+abbrev pub decreases-loop-i : goal.decreases-loop-i
+decreases-loop-i l = range_count l.ranges - l.i
