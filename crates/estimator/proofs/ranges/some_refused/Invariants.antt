@@ -1,4 +1,4 @@
--- The loop of `estimator::ranges::some_refused`: 14 would refuse no range before i, and what is left of the ranges gets less.
+-- At the loop 14 would refuse no range before i.
 -- Assumes nothing.
 use Rattle.std.proofs.Common.{◌-◌}
 use Rattle.laws.proofs.EachLaws.{NoneBefore}

@@ -1,4 +1,4 @@
--- The loop of `estimator::search::order_fault`: no range up to i starts before the one ahead of it ends, and what is left of the ranges gets less.
+-- At the loop no range up to i starts before the one ahead of it ends.
 -- Assumes nothing.
 use Rattle.std.proofs.Common.{◌-◌}
 use Rattle.laws.proofs.EachLaws.{NoneBefore}
@@ -10,4 +10,4 @@ abbrev pub invariant-loop-i : goal.invariant-loop-i
 invariant-loop-i l = NoneBefore (range_count l.ranges - 1) (starts_early l.ranges) l.i
 
 abbrev pub decreases-loop-i : goal.decreases-loop-i
-decreases-loop-i l = range_count l.ranges - l.i
+decreases-loop-i l = l.count - l.i
