@@ -1,6 +1,6 @@
 -- Laws of a line that is read byte by byte: while its digits are a number, one byte more is a digit of it, ends it, or breaks it for good.
 -- Assumes nothing.
-use mathlib.Core.Path.{◌≡◌, sym, ap, ◌∙◌}
+use mathlib.Core.Path.{◌≡◌, refl, sym, ap, ◌∙◌, subst⁻¹}
 use mathlib.Core.Bool.{Bool, true, false, not, cond, ◌&&◌}
 use mathlib.Core.List.{List, [], ◌∷◌, ◌++◌, map}
 use Prim.Native.Nat.{ℕ, suc, ◌+◌, ◌-◌, ◌*◌, ◌^◌, ◌≤◌, ◌<◌}
@@ -157,3 +157,50 @@ module _ (input : List ℕ) (start i n : ℕ) (s : Scanned input start i n) wher
             let long = ltb-true 1 (length (piece input start i ++ (c ∷ []))) (both_right (eqb (get_or (piece input start i ++ (c ∷ [])) 0 0) 48) _ t) in
             let more : start < i = omega (arith, long, piece_length, length-append (piece input start i) (c ∷ [])) in
             z more (sym (first_byte more) ∙ first)
+
+-- ---- what the byte at i makes of the line, as a reader of it asks
+
+-- the digits so far, and for each case of that byte what is answered
+pub record Reading (input : List ℕ) (start i n : ℕ) : Type 0 where
+  pub scanned : Scanned input start i n
+  pub if_empty : i < length input → get_or input i 0 ≡ line_feed → i ≡ start → numeral_lines (drop start input) ≡ 0
+  pub if_ended : i < length input → get_or input i 0 ≡ line_feed → (i ≡ start → ⊥) → Stepped input start n (i + 1)
+  pub if_no_digit : i < length input → (get_or input i 0 ≡ line_feed → ⊥) → (t : Bool) → t ≡ digit (get_or input i 0) → t ≡ false
+      → numeral_lines (drop start input) ≡ 0
+  pub if_after_zero : i < length input → (get_or input i 0 ≡ line_feed → ⊥)
+      → (t : Bool) → t ≡ (ltb start i && eqb (get_or input start 0) 48) → t ≡ true → numeral_lines (drop start input) ≡ 0
+  pub if_too_large : i < length input → (get_or input i 0 ≡ line_feed → ⊥) → 2 ^ 32 ≤ 10 * n + (get_or input i 0 - 48) → numeral_lines (drop start input) ≡ 0
+  pub if_not_ended : length input ≤ i → numeral_lines (drop start input) ≡ 0
+
+reading : (input : List ℕ) (start i n : ℕ) → Scanned input start i n → Reading input start i n
+reading input start i n s =
+    record {
+      scanned = s;
+      if_empty = λ h f e. empty_line input start i n s (get_or input i 0) refl h f e;
+      if_ended = λ h f o.
+          let more : i + 1 ≡ suc i = omega arith in
+          subst⁻¹ (Stepped input start n) more (ended input start i n s (get_or input i 0) refl h f (omega (arith, s.from)));
+      if_no_digit = λ h o t e f. no_digit input start i n s (get_or input i 0) refl h o (sym e ∙ f);
+      if_after_zero = λ h o t e f.
+          let led = sym e ∙ f in
+          after_zero input start i n s (get_or input i 0) refl h o
+          (ltb-true start i (both_left (ltb start i) (eqb (get_or input start 0) 48) led))
+          (eqb-true (get_or input start 0) 48 (both_right (ltb start i) (eqb (get_or input start 0) 48) led));
+      if_too_large = λ h o l. too_large input start i n s (get_or input i 0) refl h o l;
+      if_not_ended = not_ended input start i n s;
+    }
+
+pub reading_none : (input : List ℕ) (start : ℕ) → start ≤ length input → Reading input start start 0
+reading_none input start h = reading input start start 0 (scanned_none input start h)
+
+-- a digit more
+pub reading_more : (input : List ℕ) (start i n next : ℕ) → Reading input start i n → i < length input → digit (get_or input i 0) ≡ true
+    → (ltb start i && eqb (get_or input start 0) 48) ≡ false → next ≡ 10 * n + (get_or input i 0 - 48) → next < 2 ^ 32 → Reading input start (i + 1) next
+reading_more input start i n next r h d z e l =
+    let more : i + 1 ≡ suc i = omega arith in
+    let led : start < i → get_or input start 0 ≡ 48 → ⊥ =
+    λ a b. true_not_false (both (ltb start i) (eqb (get_or input start 0) 48) (lt-ltb start i a) (eq-eqb (get_or input start 0) 48 b)) z in
+    reading input start (i + 1) next
+    (subst⁻¹ (λ (k : ℕ). Scanned input start k next) more
+    (subst⁻¹ (λ (k : ℕ). Scanned input start (suc i) k) e
+    (scanned_more input start i n r.scanned (get_or input i 0) refl h d led (omega (arith, e, l)))))
