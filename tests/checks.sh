@@ -2,7 +2,8 @@
 # What rt does not look at by itself. Each check takes the repository's root, and those of a run also the saved output of `rt ci`, that of the
 # controls, or the numbers of tests that passed. It prints a line `FAIL: ..` for each fault and fails if there was one.
 
-# The checks of the tree, those of what `rt ci` left, that of the controls and that of the numbers, in the order in which tests/run asks them.
+# The checks of the tree, those of what `rt ci` said, those of what the wrong programs and the controls came to, and that of the numbers, in the order in
+# which tests/run asks them.
 # shellcheck disable=SC2034
 tree_checks=(
     crates_are_listed
@@ -19,13 +20,16 @@ tree_checks=(
 )
 # shellcheck disable=SC2034
 run_checks=(
+    rt_ci_is_content
     edits_were_refused
-    programs_were_refused
-    edits_keep_the_form
-    verdicts_are_of_this_run
     crates_are_proved
     only_libc_is_assumed
     programs_ran
+)
+# shellcheck disable=SC2034
+try_checks=(
+    programs_were_refused
+    edits_keep_the_form
 )
 # shellcheck disable=SC2034
 control_checks=(controls_are_proved)
@@ -35,6 +39,7 @@ passed_checks=(tests_are_as_many)
 # What the prover says where a proof no longer fits the text: such a refusal shows nothing about the meaning.
 form_phrases=(
     'that can be named from here'
+    'has no `'
     'is not in scope'
     'no occurrence of'
     'needs a function type'
@@ -61,7 +66,7 @@ has_entry() { # LIST ENTRY
 
 # Prints `NAME DEP DEP ..` for each crate that crates.txt lists, read as rt reads it.
 crate_lines() { # ROOT
-    awk '{ sub(/#.*/, "") } /:/ { sub(/:/, " "); $1 = $1; print }' "$1/crates.txt"
+    awk '{ sub(/#.*/, "") } /:/ { sub(/( [^:]*)?:/, " "); $1 = $1; print }' "$1/crates.txt"
 }
 
 # Prints the name of each crate that crates.txt lists.
@@ -69,9 +74,10 @@ crate_names() { # ROOT
     crate_lines "$1" | cut -d ' ' -f 1
 }
 
-# Prints each path of the tree that meets find's expression; target/ and .git/ are not the tree's.
+# Prints each path of the tree that meets find's expression; target/, .git/ and what rt makes in a crate's out/ are not the tree's.
 tree_paths() { # ROOT EXPRESSION..
-    (cd "$1" && find . \( -path ./target -o -path ./.git \) -prune -o \( "${@:2}" \) -print) | sed 's|^\./||' | sort
+    (cd "$1" && find . \( -path ./target -o -path ./.git -o -path './crates/*/out' ! -path './crates/*/*/*' \) -prune -o \( "${@:2}" \) -print) |
+        sed 's|^\./||' | sort
 }
 
 # A folder that is not listed is never proved, and rt says nothing of one that holds no source.
@@ -113,9 +119,9 @@ plain_records() { # CRATE_FOLDER
 proofs_of() { # CRATE_FOLDER FILE CLAIM
     local file
     while IFS= read -r file; do
-        ! grep -qE "^use Rattle·${1##*/}·specs\.specs\.${2//\//.}\.\{(.*, )?$3(,.*)?\}\$" "$file" ||
-            sed -nE "s|^(pub )?([a-z0-9-]+) : $3\$|proofs/${file##*/} \2|p" "$file"
-    done < <(grep -lsE "^(pub )?[a-z0-9-]+ : $3\$" "$1"/proofs/*.antt)
+        ! grep -qE "^use Rattle\.${1##*/}\.specs\.${2//\//\\.}\.\{(.*, )?$3(,.*)?\}\$" "$file" ||
+            sed -nE "s|^(pub )?([a-z0-9_'-]+) : $3\$|proofs/${file##*/} \2|p" "$file"
+    done < <(grep -lsE "^(pub )?[a-z0-9_'-]+ : $3\$" "$1"/proofs/*.antt)
 }
 
 # A file of proofs that no other imports can vanish unseen. One that stands in proofs/ itself is checked: rt refuses it if no `mod` line names it.
@@ -230,14 +236,18 @@ functions_have_controls() { # ROOT
     [ "$faults" -eq 0 ]
 }
 
-# The contracts of C functions are assumed, and the check of a library does not count them: only programs may reach them.
+# The contracts of C functions are assumed. rt refuses those of a crate's own; those of the kit are reached by libc, io and os, which no library names, and
+# by std's input and output, which only programs use.
 libraries_call_no_c() { # ROOT
-    local faults=0 name deps dep
+    local faults=0 name deps dep place
     while read -r name deps; do
         [ -f "$1/crates/$name/src/lib.rt" ] || continue
         for dep in $deps; do
             case $dep in libc | io | os) fault "the library $name depends on $dep" ;; esac
         done
+        while IFS= read -r place; do
+            fault "the library $name reaches what C does, in ${place#"$1/"}"
+        done < <(grep -rnE '^[^/]*\b((libc|io|os|std::(io|fs|env|net|process|thread|time))::|HostRuntime\b|use std::\{)' "$1/crates/$name/src" | cut -d : -f 1,2)
     done < <(crate_lines "$1")
     [ "$faults" -eq 0 ]
 }
@@ -269,29 +279,48 @@ outputs_are_right() { # ROOT
     [ "$faults" -eq 0 ]
 }
 
-# rt's count of refused edits does not say which: each edit of the tree must be one of them, with the prover's words kept.
+# `rt ci` passes a tree with edits that cannot be applied, compiled or read: they say nothing of a contract.
+rt_ci_is_content() { # ROOT OUTPUT
+    local faults=0 line well
+    well=$(grep -a '^rt: ok; ' "$2")
+    if [ -z "$well" ] || [[ $well == *$'\n'* ]]; then
+        fault "rt ci did not say once that all is well"
+    elif [[ $well =~ ,\ [0-9]+\ bad ]]; then
+        fault "rt ci counts edits that are bad: $well"
+    fi
+    while IFS= read -r line; do
+        fault "rt ci: ${line#rt: }"
+    done < <(grep -aE ': (BAD EDIT|NOT TRIED|NOT REFUSED): ' "$2")
+    [ "$faults" -eq 0 ]
+}
+
+# Prints what `rt ci` says of an edit.
+said_of_edit() { # OUTPUT EDIT
+    awk -v start="rt: must-fail $2.edit: " 'index($0, start) == 1 { print substr($0, length(start) + 1) }' "$1"
+}
+
+# rt's count of refused edits does not say which: each edit of the tree must be one of them. An edit that an earlier run of the same files tried has its
+# line as the others do.
 edits_were_refused() { # ROOT OUTPUT
-    local faults=0 refused edit
-    refused=$(sed -n 's/^rt: must-fail \(.*\): refused, as it must be (.*$/\1/p' "$2")
+    local faults=0 edit said
     while IFS= read -r edit; do
-        if ! has_entry "$refused" "$edit"; then
-            fault "must-fail $edit was not refused"
-        elif [ ! -s "$1/target/must-fail/$edit/.log" ]; then
-            fault "must-fail $edit has left no log"
-        fi
+        said=$(said_of_edit "$2" "$edit")
+        [[ $said == 'refused, as it must be'* && $said != *$'\n'* ]] || fault "must-fail $edit was not refused"
     done < <(edit_labels "$1")
     [ "$faults" -eq 0 ]
 }
 
-# Of several wrong programs in one file each must be refused for what it does itself.
+# Of several wrong programs in one file each must be refused for what it does itself, and nothing else be.
 programs_were_refused() { # ROOT OUTPUT
-    local faults=0 edit crate program refused functions function seen
+    local faults=0 edit crate log program refused functions function seen
     while IFS= read -r edit; do
-        crate=${edit%%/*}
-        [ -f "$1/target/must-fail/$edit/.log" ] || continue # edits_were_refused names it
-        refused=$(refused_functions "$crate" "$1/target/must-fail/$edit/.log")
+        crate=${edit%%/*} log=$1/target/must-fail/$edit.log
+        if ! grep -qs '^logic=not-proved$' "$log"; then
+            fault "must-fail $edit has left no log in which it is refused"
+            continue
+        fi
+        refused=$(refused_functions "$crate" "$log")
         functions=$(edit_changes "$1/crates/$crate" "$1/crates/$crate/must-fail/${edit#*/}.edit")
-        ! grep -q ' -$' <<<"$functions" || continue # no function's body alone: it has a file of its own
         while IFS= read -r program; do
             seen=no
             while IFS= read -r function; do
@@ -303,52 +332,65 @@ programs_were_refused() { # ROOT OUTPUT
             has_entry "$(cut -d ' ' -f 2 <<<"$functions")" "$function" ||
                 fault "must-fail $edit: $function is refused, and no wrong program changes it"
         done < <(grep . <<<"$refused")
-    done < <(edit_labels "$1")
+    done < <(edits_of_bodies "$1")
     [ "$faults" -eq 0 ]
 }
 
-# Where a proof no longer fits the text, rt says the same as where the program is wrong; the prover's words tell of it.
+# Where a proof no longer fits the text, or the prover came to a limit, rt says that it is refused as where the program is wrong; the prover's words tell of it.
 edits_keep_the_form() { # ROOT OUTPUT
-    local faults=0 edit log text phrase
+    local faults=0 bodies edit crate log said phrase function shown
+    bodies=$(edits_of_bodies "$1")
     while IFS= read -r edit; do
-        log=$1/target/must-fail/$edit/.log
-        [ -f "$log" ] || continue # edits_were_refused names it
-        text=$(tr -s '[:space:]' ' ' <"$log") # the prover breaks its lines anywhere
-        for phrase in "${form_phrases[@]}"; do
-            [[ $text != *"$phrase"* ]] || fault "must-fail $edit breaks the form of a proof: its log says '$phrase'"
+        crate=${edit%%/*} log=$1/target/must-fail/$edit.log said=$(said_of_edit "$2" "$edit")
+        for phrase in 'only because a proof file names what the edit took away' 'only by a limit of the prover'; do
+            [[ $said != *"($phrase"* ]] || fault "must-fail $edit was refused $phrase"
         done
+        if ! has_entry "$bodies" "$edit"; then # of what has no log rt ci tells the first error
+            for phrase in "${form_phrases[@]}"; do
+                [[ $said != *"$phrase"* ]] || fault "must-fail $edit breaks the form of a proof: rt ci says '$phrase'"
+            done
+        elif [ -f "$log" ]; then # programs_were_refused names it if there is none
+            shown=$(refused_functions "$crate" "$log" "${form_phrases[@]}")
+            while IFS= read -r function; do
+                has_entry "$shown" "$function" || fault "must-fail $edit breaks the form of the proof of $function, and nothing else of it is refused"
+            done < <(refused_functions "$crate" "$log")
+        fi
     done < <(edit_labels "$1")
     [ "$faults" -eq 0 ]
 }
 
-# `rt ci` starts from nothing; a word of an earlier run anywhere in what it said means that it did not.
-verdicts_are_of_this_run() { # ROOT OUTPUT
-    local faults=0 line
-    local words=(-e cache=trusted -e incremental=trusted -e 'unchanged since it was last proved')
-    while IFS= read -r line; do
-        fault "a verdict of an earlier run: $line"
-    done < <(grep -aHnF "${words[@]}" "$2" "$1"/target/log/*.out)
-    [ "$faults" -eq 0 ]
+# Prints what the check of a crate said in this run: the lines up to that it is proved.
+said_of_crate() { # OUTPUT NAME
+    awk -v name="$2" '
+        /^== / { inside = $0 == "== " name }
+        inside && $0 == "rt: " name " proved" { inside = 0 }
+        inside { print }' "$1"
 }
 
-# Each listed crate has one verdict, in words that leave nothing open. Of the two `trusted` words one is for the kit's
-# logic and the other for the libraries, which are the kit's or were proved before in the same run.
+# Each listed crate has one verdict, in words that leave nothing open, or was proved by an earlier run of the same files over the same libraries. Of the
+# `trusted` words one is for the kit's logic and the others are for the libraries, which are the kit's or were proved before; one of a check over kept
+# work is not among them.
 crates_are_proved() { # ROOT OUTPUT
-    local faults=0 proved name verdict word
-    proved=$(sed -n 's/^rt: \([^ ]*\) proved ([0-9]* s)$/\1/p' "$2")
+    local faults=0 proved kept name verdict word
+    proved=$(sed -n 's/^rt: \([^ ]*\) proved$/\1/p' "$2")
+    kept=$(sed -n 's/^rt: \([^ ]*\) is kept: an earlier run on this machine proved the same files over the same libraries$/\1/p' "$2")
     for name in $(crate_names "$1"); do
-        verdict=$(grep -as '^logic=' "$1/target/log/$name.out")
-        if ! has_entry "$proved" "$name"; then
-            fault "$name was not proved in this run"
+        if has_entry "$kept" "$name"; then
             continue
-        elif [[ $verdict != 'logic=proved '* || $verdict == *$'\n'* ]]; then
+        elif ! has_entry "$proved" "$name"; then
+            fault "$name was not proved"
+            continue
+        fi
+        verdict=$(said_of_crate "$2" "$name" | grep -a '^logic=\|^holes=')
+        if [[ $verdict != 'logic=proved '* || $verdict == *$'\n'* ]]; then
             fault "$name has no verdict, or not a single one, that it is proved"
             continue
         fi
         for word in $verdict; do
             case $word in
-            logic=proved | functions=* | axioms=* | target=* | sum=* | native=nat,char,string) ;;
-            logic-built=trusted | libraries-built=trusted) ;;
+            logic=proved | functions=* | sum=* | native=nat,char,string) ;;
+            logic-built=trusted | libraries-built=trusted | statements=trusted) ;;
+            axioms=* | target=* | cpu=*) ;; # only_libc_is_assumed reads the first, and the others are of what is compiled
             *) fault "$name has the word $word in its verdict" ;;
             esac
         done
@@ -356,13 +398,13 @@ crates_are_proved() { # ROOT OUTPUT
     [ "$faults" -eq 0 ]
 }
 
-# Prints what one crate assumes beyond what its kind may, by the lines `axioms CRATE: ..` and the verdict of its check.
-assumed_too_much() { # LOG KIND
-    awk -v kind="$2" '
-        /^axioms / {
+# Prints what one crate assumes beyond what its kind may, by the lines `axioms CRATE: ..` and the verdict of its check, which it reads.
+assumed_too_much() { # KIND
+    awk -v kind="$1" '
+        /^axioms / && !/: none reached of / {
             crate = $2
             sub(/:$/, "", crate)
-            if (kind == "library" || crate != "libc") print "assumes functions of " crate
+            if (kind == "library" || crate != "libc" && crate != "os") print "assumes functions of " crate
             if (match($0, /\([0-9]+ of the /)) named += substr($0, RSTART + 1)
         }
         /^logic=/ {
@@ -371,42 +413,42 @@ assumed_too_much() { # LOG KIND
                 if ($i ~ /^axioms=/) counted += substr($i, 8)
             }
         }
-        END { if (counted + 0 != named + 0) print "assumes " counted + 0 " functions and names " named + 0 }' "$1"
+        END { if (counted + 0 != named + 0) print "assumes " counted + 0 " functions and names " named + 0 }'
 }
 
-# A program may rest on the contracts of libc, which the kit declares, and on nothing else; a library on none.
+# A program may rest on the contracts of libc and os, which the kit declares for std, and on nothing else; a library on none. What an earlier run proved
+# says no more of it.
 only_libc_is_assumed() { # ROOT OUTPUT
-    local faults=0 name kind log line
+    local faults=0 name kind line
     for name in $(crate_names "$1"); do
         kind=library
         [ ! -f "$1/crates/$name/src/main.rt" ] || kind=program
-        log=$1/target/log/$name.out
-        [ -s "$log" ] || fault "the $kind $name has left no log"
         while IFS= read -r line; do
             fault "the $kind $name $line"
-        done < <([ ! -s "$log" ] || assumed_too_much "$log" "$kind")
+        done < <(said_of_crate "$2" "$name" | assumed_too_much "$kind")
     done
     [ "$faults" -eq 0 ]
 }
 
-# Each program was run, and printed its stored output.
+# Each program was run as both compilers build it, and printed its stored output.
 programs_ran() { # ROOT OUTPUT
-    local faults=0 name
+    local faults=0 name by
     for name in $(crate_names "$1"); do
-        [ ! -f "$1/crates/$name/src/main.rt" ] ||
-            grep -q "^rt: $name ran\( as nobody\)\?, and wrote what its file 'stdout' has" "$2" ||
-            fault "the program $name was not seen to print its stored output"
+        [ -f "$1/crates/$name/src/main.rt" ] || continue
+        for by in '' " (built by Rattle's own compiler)"; do
+            grep -qaxF "rt: $name ran$by, and wrote what its file stdout has" "$2" || fault "the program $name$by was not seen to print its stored output"
+        done
     done
     [ "$faults" -eq 0 ]
 }
 
 # The controls, tried in must-fail/ of a copy, must not be refused there.
 controls_are_proved() { # ROOT OUTPUT
-    local faults=0 name
+    local faults=0 name said
     for name in $(crate_names "$1"); do
-        ! grep -qs '^new:' "$1/crates/$name/controls.edit" || # only reasons why there are none
-            grep -q "^rt: must-fail $name/controls: NOT REFUSED: the crate is still proved with this edit" "$2" ||
-            fault "$name is not proved with its controls: see target/controls/target/must-fail/$name/controls/.log"
+        grep -qs '^new:' "$1/crates/$name/controls.edit" || continue # only reasons why there are none
+        said=$(said_of_edit "$2" "$name/controls")
+        [[ $said == 'NOT REFUSED: the crate is still proved with this edit'* ]] || fault "$name is not proved with its controls: ${said:-rt must-fail says nothing of them}"
     done
     [ "$faults" -eq 0 ]
 }

@@ -2,6 +2,8 @@
 # Reading wrong programs and controls. A file crates/NAME/must-fail/group_*.edit holds several wrong programs, each begun by a line `# PROGRAM: what
 # it does wrong`; any other file there holds one, which has the file's name. crates/NAME/controls.edit holds edits that keep the meaning, and for a
 # function that has none a line `# none for FUNCTION: REASON`. A function is named as its proof is in proofs/: MODULE/FUNCTION, or FUNCTION in the root.
+# What the prover says of an edit of the bodies of functions alone is kept in target/must-fail/CRATE/LABEL.log, and what `rt must-fail` says of the controls in
+# target/controls/CRATE.log, each beside a sum of all that it was said of.
 
 # Prints CRATE/LABEL for each must-fail edit, the name by which rt calls it.
 edit_labels() { # ROOT
@@ -64,26 +66,152 @@ edit_changes() { # CRATE_FOLDER EDIT_FILE
         }' "$2"
 }
 
-# Prints the functions that the prover refuses for what they do: those with an error in their own proof, or whose proof, made by the prover, does not
-# close. That a step was not admitted, or that a function calls one that is not proved, follows from other errors and shows nothing.
-refused_functions() { # CRATE LOG
+# Prints CRATE/LABEL for each edit that changes the bodies of functions alone: of these it can be seen where they are refused. Every file with several wrong
+# programs is to be one.
+edits_of_bodies() { # ROOT [CRATE]
+    local edit changes
+    while IFS= read -r edit; do
+        [ -z "${2-}" ] || [ "${edit%%/*}" = "$2" ] || continue
+        changes=$(edit_changes "$1/crates/${edit%%/*}" "$1/crates/${edit%%/*}/must-fail/${edit#*/}.edit")
+        [ -z "$changes" ] || grep -q ' -$' <<<"$changes" || echo "$edit"
+    done < <(edit_labels "$1")
+}
+
+# Makes the replacements of an edit, each in the one place where its old text stands.
+apply_edit() { # CRATE_FOLDER EDIT_FILE
     awk -v crate="$1" '
-        function conclude() {
-            gsub(/ +/, " ", text)
-            if (failing != "" && text !~ /was not admitted/) print failing
+        function load(file,    line) {
+            if (file in size) return
+            size[file] = 0
+            while ((getline line <(crate "/" file)) > 0) text[file, ++size[file]] = line
+            close(crate "/" file)
+        }
+        /^file: / {
+            file = substr($0, 7)
+            load(file)
+        }
+        /^old: / { old = substr($0, 6) }
+        /^new:/ {
+            new = substr($0, 5)
+            sub(/^ /, "", new)
+            for (n = 1; old != "" && n <= size[file]; n++) {
+                where = index(text[file, n], old)
+                if (!where) continue
+                text[file, n] = substr(text[file, n], 1, where - 1) new substr(text[file, n], where + length(old))
+                break
+            }
+            old = ""
+        }
+        END {
+            for (file in size)
+                for (n = 1; n <= size[file]; n++) print text[file, n] > (crate "/" file)
+        }' "$2"
+}
+
+# Prints a crate and those below it, by the lines of crates.txt.
+crates_below() { # ROOT CRATE
+    crate_lines "$1" | awk -v top="$2" '
+        function visit(name,    n, i, deps) {
+            if (name in seen) return
+            seen[name] = 1
+            n = split(below[name], deps, " ")
+            for (i = 1; i <= n; i++) visit(deps[i])
+            print name
+        }
+        {
+            name = $1
+            $1 = ""
+            below[name] = $0
+        }
+        END { visit(top) }'
+}
+
+# Prints a sum of all that a check of a crate under an edit rests on: the kit, the crate and those below it, and the edit.
+sum_of_try() { # ROOT CRATE EDIT_FILE
+    local name part folders=()
+    for name in $(crates_below "$1" "$2"); do
+        for part in src specs proofs; do [ ! -d "$1/crates/$name/$part" ] || folders+=("crates/$name/$part"); done
+    done
+    (cd "$1" && rt version && crate_lines . && find "${folders[@]}" -type f -print0 | sort -z | xargs -0 sha256sum && sha256sum <"$3") | sha256sum
+}
+
+# Answers whether a log says what came of the same try of the same texts.
+is_tried() { # LOG SUM
+    [ -s "$1" ] && [ "$(cat "${1%.log}.sum" 2>/dev/null)" = "$2" ]
+}
+
+# Copies a crate and those below it, with the libraries that a check needs, so that edits can be made in the copy.
+copy_crate() { # ROOT CRATE COPY
+    local name part
+    for name in $(crates_below "$1" "$2"); do
+        mkdir -p "$3/crates/$name/out" && grep -E "^${name}[ :]" "$1/crates.txt" >>"$3/crates.txt" || return
+        for part in src specs proofs out/rlib; do
+            [ ! -d "$1/crates/$name/$part" ] || cp -R "$1/crates/$name/$part" "$3/crates/$name/$part" || return
+        done
+    done
+}
+
+# Tries an edit in the copy and keeps what is said: of wrong programs by a check of the crate with all of them made, of controls by `rt must-fail`.
+try_edit() { # ROOT CRATE COPY EDIT LOG
+    local edit=$1/crates/$2/$4 inside=$3/crates/$2 sum
+    sum=$(sum_of_try "$1" "$2" "$edit")
+    ! is_tried "$5" "$sum" || return 0
+    mkdir -p "${5%/*}" && rm -f "$5" "${5%.log}.sum" || return
+    [ -d "$3" ] || copy_crate "$1" "$2" "$3" || {
+        rm -rf "$3"
+        return 1
+    }
+    rm -rf "$inside/src" && cp -R "$1/crates/$2/src" "$inside/src" || return
+    if [ "$4" = controls.edit ]; then
+        install -D "$edit" "$inside/must-fail/$4" && (cd "$3" && bare rt must-fail "$2") >"$5"
+        grep -q ': NOT REFUSED: ' "$5" || return
+    else
+        apply_edit "$inside" "$edit" && (cd "$inside" && bare rt check --jobs 1) >"$5"
+        grep -q '^logic=' "$5" || return
+    fi
+    printf '%s\n' "$sum" >"${5%.log}.sum"
+}
+
+# Tries all that one crate has to be tried with beside `rt ci`.
+try_crate() { # ROOT CRATE COPY
+    local label
+    for label in $(edits_of_bodies "$1" "$2" | sed 's|.*/||'); do
+        try_edit "$1" "$2" "$3" "must-fail/$label.edit" "$1/target/must-fail/$2/$label.log"
+    done
+    ! grep -qs '^new:' "$1/crates/$2/controls.edit" || # only reasons why there are none
+        try_edit "$1" "$2" "$3" controls.edit "$1/target/controls/$2.log"
+}
+
+# Prints the functions that the prover refuses for what they do: those with an error in their own answers, or of whose goals one was searched for and not
+# proved, or may be false. That a step was not admitted, or that a function calls one that is not proved, follows from other errors and shows nothing.
+# An error with one of the PHRASES is passed over.
+refused_functions() { # CRATE LOG [PHRASE..]
+    local phrases
+    phrases=$(printf '%s\n' "${@:3}")
+    phrases=$phrases awk -v crate="$1" '
+        function conclude(    n, shows) {
+            gsub(/[ \t]+/, " ", text)
+            shows = failing != "" && text !~ /was not admitted/
+            for (n = 1; n <= phrases; n++) if (index(text, phrase[n])) shows = 0
+            if (shows) print failing
             failing = text = ""
         }
+        BEGIN { phrases = ENVIRON["phrases"] == "" ? 0 : split(ENVIRON["phrases"], phrase, "\n") }
         /^[^ ]/ { conclude() }
-        match($0, "/must-fail/" crate "/[^/ ]+/proofs/[^ ]*/Proof[.]antt:[0-9]+:[0-9]+: error: ") {
-            failing = substr($0, RSTART + length("/must-fail/" crate "/"), RLENGTH)
-            sub(/^[^\/]*\/proofs\//, "", failing)
-            sub(/\/Proof\.antt:.*/, "", failing)
+        /^(\.\/)?proofs\/[^ :]*\/(Answers|Invariants|Proof)\.antt:[0-9]+:[0-9]+: error: / {
+            failing = $0
+            sub(/^(\.\/)?proofs\//, "", failing)
+            sub(/\/[A-Za-z]*\.antt:.*/, "", failing)
         }
         { text = text " " $0 }
-        /^fn .*: no proof: .*does not close / && index($2, crate "::") == 1 {
-            name = substr($2, length(crate) + 3, length($2) - length(crate) - 3)
-            gsub(/::/, "/", name)
-            print name
+        /^note: src\/.*: it is not proved that .*; the facts known there allow values at which this goal is false/ { open = 1 }
+        /^fn / {
+            if ((/: no proof: .*`search` did not prove / || open && /: not proved/) && index($2, crate "::") == 1) {
+                name = substr($2, length(crate) + 3, length($2) - length(crate) - 3)
+                gsub(/::/, "/", name)
+                print name
+            }
+            open = 0
         }
         END { conclude() }' "$2" | sort -u
 }

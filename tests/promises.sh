@@ -22,15 +22,20 @@ open_items() { # CRATE SOURCE MODULE
         # the name of what a line begins, or nothing
         function begun(line) {
             sub(/^ *(pub )?(extern "C" )?/, "", line)
-            sub(/^(fn|struct|enum|const|mod) /, "", line)
+            sub(/^(fn|struct|enum|const|mod|trait|type|use) /, "", line)
             return match(line, /^[A-Za-z0-9_]+/) ? substr(line, 1, RLENGTH) : "-"
         }
         { sub(/(^| )\/\/.*/, "") }
-        name == "" && /^ *#\[/ {
-            attributes = attributes $0 " "
+        # derives and tactics promise nothing; an attribute may be broken over lines
+        name == "" && (/^ *#\[/ || attribute != "") {
+            attribute = attribute " " $0
+            if (!/\]$/) next
+            attribute = squeeze(attribute)
+            if (attribute !~ /^#\[(derive|tactic)\(/) attributes = attributes attribute " "
+            attribute = ""
             next
         }
-        name == "" && (/^ghost use / || /^ *pub (extern "C" )?(fn|struct|enum|const|mod) / || attributes ~ /no_mangle/) {
+        name == "" && (/^ghost use / || /^ *pub (extern "C" )?(fn|struct|enum|const|mod|trait|type|use) / || attributes ~ /no_mangle/) {
             name = /^ghost use / ? "names" : begun($0)
             calls = / fn /
             clauses = 0
