@@ -24,21 +24,21 @@ use search::{search_fault, sum_of_estimates};
 use worksheet::{put_answers, worksheet_fault};
 
 // The estimate, or the number of the refusal.
-#[derive(Drop)]
+#[derive(Clone, Copy)]
 pub enum Asked {
     Estimate(u64),
     Refused(u32),
 }
 
 // The number of places written, or the number of the refusal.
-#[derive(Drop)]
+#[derive(Clone, Copy)]
 pub enum Filled {
     Places(usize),
     Refused(u32),
 }
 
 // The number of answers written, or the number of the refusal.
-#[derive(Drop)]
+#[derive(Clone, Copy)]
 pub enum Answered {
     Answers(usize),
     Refused(u32),

@@ -11,6 +11,7 @@ use super::estimate_of;
 use super::ranges::{left_over, some_refused, x_at, y_at};
 
 // 22: whether there is no range, more than sixteen, or a word left over.
+#[tactic(auto, unfolding(estimate_rules::specs::Search::count_fault))]
 fn count_fault(ranges: &[u32]) -> bool
     ensures { result ≡ count_fault ranges.now }
 {
@@ -37,6 +38,7 @@ fn order_fault(ranges: &[u32]) -> bool
 }
 
 // 7, 24, 8 to 12, 14, 22 and 23: the first of these sentences that is true, else 0.
+#[tactic(auto, using(estimate_rules::proofs::SearchLaws::search_read))]
 pub(crate) fn search_fault(words: &[u32], ranges: &[u32]) -> u32
     ensures { result ≡ search_fault words.now ranges.now }
 {
@@ -57,6 +59,7 @@ pub(crate) fn search_fault(words: &[u32], ranges: &[u32]) -> u32
 }
 
 // The estimate of a range within the list, 0 if it is empty.
+#[tactic(auto, using(estimate_rules::proofs::Proved::estimate_empty))]
 fn estimate_within(words: &[u32], x: u32, y: u32) -> u64
     requires { Readable words.now × (x ≤ y) × (y ≤ entries words.now) }
     ensures { result ≡ estimate words.now x y }

@@ -300,6 +300,7 @@ pub extern "C" fn qh_replay_journal(
 }
 
 // Fills the first bytes that are lent with what the exam sheet prints for an input and answers how many they are; a refusal is printed too.
+#[tactic(auto, unfolding(sheet_text::specs::Printed::printed_of))]
 #[unsafe(no_mangle)]
 pub extern "C" fn qh_sheet(input: &[u8], out: &mut [u8; SHEET_BYTES]) -> usize
     ensures value { result ≡ length (sheet input.now) }

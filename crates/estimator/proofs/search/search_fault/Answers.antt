@@ -1,12 +1,9 @@
 -- `estimator::search::search_fault` meets its contract: at each return the sentences before are false, and the one that it names is true.
 -- Assumes nothing.
-use Rattle.std.proofs.Common.{sym, ◌∙◌, arith}
+use Rattle.std.proofs.Common.{sym, arith}
 use Rattle.words_rules.specs.Reading.{Readable}
-use Rattle.estimate_rules.proofs.SearchLaws.{search_read, search_ranges, search_count, search_order, search_none}
+use Rattle.estimate_rules.proofs.SearchLaws.{search_ranges, search_count, search_order, search_none}
 use Rattle.estimator.proofs.search.search_fault.Goals as goal
-
-pub returns-then-read-ne0 : goal.returns-then-read-ne0
-returns-then-read-ne0 c = c.read_fault-read.ensures ∙ sym (search_read c.args.words.now c.args.ranges.now (λ e. omega (arith, c.read_fault-read.ensures)))
 
 pub returns-then-some_refused : goal.returns-then-some_refused
 returns-then-some_refused c =
