@@ -13,7 +13,7 @@ use counts::Meaning;
 use list_rules::Quality;
 
 // What fails first of a bucketlet, given by its class. One of width 0 is empty and has no range.
-#[tactic(auto, using(check_rules::proofs::RangeLaws::empty_verdict))]
+#[tactic(auto, using(check_rules::proofs::RangeLaws::empty_verdict, counts_rules::proofs::BaseLaws::number_small), unfolding(counts::specs::Reply::class_meaning))]
 fn bucketlet_verdict(freqs: &[u32], q: Quality, a: usize, w: usize, class: u32) -> Verdict
     requires { Classed freqs.now q a w class }
     ensures { result ≡ bucketlet_verdict q freqs.now a w (class_number base class) }
@@ -28,6 +28,7 @@ fn bucketlet_verdict(freqs: &[u32], q: Quality, a: usize, w: usize, class: u32) 
 }
 
 // Whether the total of the bucket from start to end is within a factor q of its true count.
+#[tactic(auto, using(laws::proofs::SumsLaws::part_le, counts_rules::proofs::TotalLaws::number_small), unfolding(counts::specs::Reply::total_meaning, check_rules::specs::Checking::total_verdict))]
 fn total_verdict(freqs: &[u32], q: Quality, start: usize, end: usize, code: u32) -> Verdict
     requires { Totalled freqs.now q start end code }
     ensures { result ≡ total_verdict q freqs.now start end code }

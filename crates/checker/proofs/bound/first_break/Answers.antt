@@ -1,8 +1,9 @@
 -- `checker::bound::first_break` meets its contract. At the loop the ends far from the start in hand are known, and so is the first start from it on of a
 -- range that breaks the bound.
 -- Assumes nothing.
-use Rattle.std.proofs.Common.{ℕ, ◌+◌, arith, sym, subst}
-use Rattle.checker.proofs.BoundLaws.{FirstFrom, steps, over_small, under_small, moved, moved_at, moved_over, far_earlier, none_higher, some_higher, first_kept, first_found}
+use Rattle.std.proofs.Common.{◌+◌, arith}
+use Rattle.checker.proofs.BoundLaws.{steps, over_small, under_small, moved, moved_over, far_earlier}
+use Rattle.checker.proofs.BreakSteps.{next_found, next_kept}
 use Rattle.checker.proofs.bound.first_break.Goals as goal
 
 pub one_earlier-start-requires : goal.one_earlier-start-requires
@@ -37,21 +38,9 @@ overflow_add-start-in-loop-start c =
 pub loop-start-preserved-then-start-ends : goal.loop-start-preserved-then-start-ends
 loop-start-preserved-then-start-ends c =
     let l = c.loop-start in
-    let fs = c.args.freqs.now in
-    let b = c.args.b in
-    let p = c.one_earlier-start.result in
-    let f = c.farther-ends in
-    let is = moved fs b l.start p l.invariant.point (omega arith) c.one_earlier-start.ensures in
-    record { point = is; far = f.ensures.far; is_first = first_found fs b p.at is.within (some_higher fs b p f.result is f.ensures (omega arith)) }
+    next_found c.args.freqs.now c.args.b l.start _ l.ends _ l.first l.invariant (omega arith) c.one_earlier-start.ensures c.farther-ends.ensures (omega arith)
 
 pub loop-start-preserved : goal.loop-start-preserved
 loop-start-preserved c =
     let l = c.loop-start in
-    let fs = c.args.freqs.now in
-    let b = c.args.b in
-    let p = c.one_earlier-start.result in
-    let f = c.farther-ends in
-    let is = moved fs b l.start p l.invariant.point (omega arith) c.one_earlier-start.ensures in
-    let at = moved_at fs b l.start p l.invariant.point (omega arith) c.one_earlier-start.ensures in
-    let known = subst (λ (i : ℕ). FirstFrom fs b i l.first) (sym at) l.invariant.is_first in
-    record { point = is; far = f.ensures.far; is_first = first_kept fs b p.at l.first known (none_higher fs b p f.result is f.ensures (omega arith)) }
+    next_kept c.args.freqs.now c.args.b l.start _ l.ends _ l.first l.invariant (omega arith) c.one_earlier-start.ensures c.farther-ends.ensures (omega arith)
