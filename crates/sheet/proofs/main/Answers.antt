@@ -1,0 +1,26 @@
+-- `sheet::main` meets its contract: no sheet is longer than the space for it. Assumes nothing.
+use Rattle.std.proofs.Common.{◌≡◌, ℕ, List, ◌≤◌, length, sym, ap, ◌∙◌, arith}
+use Rattle.std.proofs.lemmas.List.{length-take-le}
+use lib.ListN.{replicate, length-replicate}
+use Rattle.sheet_rules.specs.Limits.{sheet_bytes}
+use Rattle.sheet_rules.specs.Sheet.{sheet, filled}
+use Rattle.sheet_rules.proofs.SheetLaws.{filled_length}
+use Rattle.sheet_rules.proofs.Proved.{exam}
+use Rattle.sheet_text.specs.declared.Printed.{Printed}
+use Rattle.sheet_text.specs.Printed.{printed_of}
+use Rattle.sheet.proofs.main.Goals as goal
+
+within : (input out : List ℕ) (p : Printed) → p ≡ printed_of input → out ≡ filled (replicate sheet_bytes 0) (sheet input) → p.length ≤ length out
+unfolding printed_of
+within input out p e f =
+    let all : length out ≡ sheet_bytes = ap length f ∙ filled_length _ _ ∙ length-replicate {A = ℕ} sheet_bytes 0 in
+    let count = ap (λ (r : Printed). r.length) e in
+    omega (arith, all, count, exam.short input)
+
+pub slice_bounds-out-end : goal.slice_bounds-out-end
+slice_bounds-out-end c = let l = c.put_sheet-printed in within _ l.new.out l.result l.ensures.value l.ensures.out_after
+
+pub slice_bounds-write_all-end : goal.slice_bounds-write_all-end
+slice_bounds-write_all-end c =
+    let l = c.put_sheet-printed in
+    sym (length-take-le l.result.length l.new.out (within _ l.new.out l.result l.ensures.value l.ensures.out_after))
