@@ -16,13 +16,13 @@ use Rattle.laws.specs.Each.{each}
 use Rattle.laws.specs.Reply.{answered, refused, case_of}
 use Rattle.laws.proofs.EachLaws.{each_at}
 use Rattle.laws.proofs.ReplyLaws.{answered_case, refused_case}
-use Rattle.laws.proofs.Tests.{true_not_false, is_false, same_test}
+use Rattle.laws.proofs.Tests.{by_lt, true_not_false, is_false, same_test}
 use Rattle.counts_rules.specs.Limit.{limit}
 use Rattle.counts_rules.specs.Form.{base, used_class}
 use Rattle.counts_rules.specs.Claims.{HighestBit}
 use Rattle.counts_rules.specs.Class.{class_of, class_start, class_number}
 use Rattle.counts_rules.specs.Total.{highest_bit, shift, bits, total_code, middle, total_number, code_bits, code_shift, valid_fields, valid_code}
-use Rattle.counts_rules.proofs.ClassLaws.{Reached, class_eq, start_is, reached_up, reached_down}
+use Rattle.counts_rules.proofs.ClassLaws.{Reached, class_none, class_eq, start_is, reached_up, reached_down}
 use Rattle.counts_rules.proofs.BaseLaws.{used_says, reached_by_two, reached_small}
 use Rattle.counts_rules.proofs.TotalLaws.{Valid, highest_is, highest_eq, shift_small, bits_small, middle_small, valid_says, says_valid}
 use Rattle.counts_tables.specs.Entries.{start_of, number_of}
@@ -163,6 +163,9 @@ pub counted_class : (v c x y z a b d : ℕ) → 1 ≤ v → v ≤ limit → x �
     → b ≡ cond (leb (start_of y) v) 1 0 → d ≡ cond (leb (start_of z) v) 1 0 → c ≡ 2 * highest_bit v + 1 → c + a + b + d ≡ class_of base v
 counted_class v c x y z a b d h l ex ey ez ea eb ed e = counted_next v c a b d h l (rw ex at ea) (rw ey at eb) (rw ez at ed) e
 
+pub no_class : (v : ℕ) → v < 1 → class_of base v ≡ 0
+no_class v h = class_none base (omega arith) (omega arith) v (omega arith)
+
 pub number_in : (c : ℕ) → used_class c ≡ true → number_of c ≡ class_number base c
 unfolding number_of
 number_in c t = simp t
@@ -175,6 +178,10 @@ unfolding total_code
 code_packed t s x l e f =
     let small = shift_small t l in
     rw (f, e) (or_shifted (bits t) 5 (shift t) (omega arith))
+
+pub not_shifted : (t : ℕ) → t < 128 → 0 ≡ shift t
+unfolding shift
+not_shifted t h = by_lt t 128 0 0 (highest_bit t - 6) (λ l. refl) (λ l. absurd (omega arith))
 
 -- the bits as they are shifted out
 pub bits_shifted : (t s : ℕ) → s ≡ shift t → (t / 2 ^ s ≡ bits t) × (t / 2 ^ s < 128)
@@ -197,6 +204,12 @@ valid_by t b s h g = same_test t (valid_fields b s) (λ e. says_valid b s (h e))
 
 pub never_valid : (b s : ℕ) → (Valid b s → ⊥) → false ≡ valid_fields b s
 never_valid b s h = valid_by false b s (λ e. absurd (true_not_false e refl)) (λ v. absurd (h v))
+
+pub bits_too_large : (b s : ℕ) → 127 < b → false ≡ valid_fields b s
+bits_too_large b s h = never_valid b s (λ v. omega (arith, v.bits_top))
+
+pub shift_too_large : (b s : ℕ) → 23 < s → false ≡ valid_fields b s
+shift_too_large b s h = never_valid b s (λ v. omega (arith, v.shift_top))
 
 -- what the test of the two fields said of the code
 pub validity : (c b s : ℕ) (t u : Bool) → b ≡ code_bits c → s ≡ code_shift c → t ≡ valid_fields b s → t ≡ u → valid_code c ≡ u

@@ -67,6 +67,7 @@ fn class_search(count: u32) -> u32
 }
 
 // The class of a count, or 16.
+#[tactic(auto, using(crate::proofs::CountLaws::no_class), unfolding(crate::specs::Reply::class_reply))]
 pub fn class_of(count: u32) -> Coded
     ensures reply { coded_reply result ≡ class_reply count }
     ensures case { result ≡ coded_of (class_reply count) }
@@ -91,6 +92,7 @@ pub fn is_used_class(class: u32) -> bool
 }
 
 // The number that a class stands for, or 17.
+#[tactic(auto, using(crate::proofs::CountLaws::number_in), unfolding(crate::specs::Reply::class_meaning))]
 pub fn number_of_class(class: u32) -> Meaning
     ensures reply { meaning_reply result ≡ class_meaning class }
     ensures case { result ≡ meaning_of (class_meaning class) }
@@ -104,6 +106,7 @@ pub fn number_of_class(class: u32) -> Meaning
 // Total codes take the steps of the paper's Figure 3, with its k as 7 and its s as 5; docs/PAPER.md has what is corrected.
 
 // The place of a total's highest set bit less 6, or 0 below 128.
+#[tactic(auto, using(crate::proofs::CountLaws::not_shifted))]
 fn shift_of(total: u32) -> u32
     ensures { result ≡ shift total }
 {
@@ -114,6 +117,7 @@ fn shift_of(total: u32) -> u32
 }
 
 // The code of a total, or 16: its highest seven bits above the shift that they had.
+#[tactic(auto, unfolding(crate::specs::Reply::total_reply))]
 pub fn code_of_total(total: u32) -> Coded
     ensures reply { coded_reply result ≡ total_reply total }
     ensures case { result ≡ coded_of (total_reply total) }
@@ -134,6 +138,7 @@ fn least_bits(shift: u32) -> u32
 }
 
 // Whether the two fields are those of a valid total code.
+#[tactic(auto, using(crate::proofs::CountLaws::bits_too_large, crate::proofs::CountLaws::shift_too_large))]
 fn is_valid(bits: u32, shift: u32) -> bool
     ensures { result ≡ valid_fields bits shift }
 {
@@ -165,6 +170,7 @@ fn middle_of(shift: u32) -> u32
 }
 
 // The number that a total code stands for, or 17.
+#[tactic(auto, unfolding(crate::specs::Reply::total_meaning))]
 pub fn number_of_total(code: u32) -> Meaning
     ensures reply { meaning_reply result ≡ total_meaning code }
     ensures case { result ≡ meaning_of (total_meaning code) }

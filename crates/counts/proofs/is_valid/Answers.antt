@@ -4,14 +4,8 @@ use mathlib.Core.Logic.{⊎_elim}
 use native.Mathlib.Nat.{eq-zero-or-pos}
 use native.Mathlib.Omega.{arith}
 use borrow.Author.Tests.{leb-true, le-leb}
-use Rattle.counts.proofs.CountLaws.{least_is, valid_by, never_valid}
+use Rattle.counts.proofs.CountLaws.{least_is, valid_by}
 use Rattle.counts.proofs.is_valid.Goals as goal
-
-pub returns-then-bits-gt127 : goal.returns-then-bits-gt127
-returns-then-bits-gt127 c = never_valid _ _ (λ v. omega (arith, v.bits_top))
-
-pub returns-then-shift-gt23 : goal.returns-then-shift-gt23
-returns-then-shift-gt23 c = never_valid _ _ (λ v. omega (arith, v.shift_top))
 
 pub returns : goal.returns
 returns c =

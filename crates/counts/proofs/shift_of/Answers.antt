@@ -7,10 +7,6 @@ use Rattle.counts_rules.specs.Total.{highest_bit, shift}
 use Rattle.counts_rules.proofs.TotalLaws.{seven_below}
 use Rattle.counts.proofs.shift_of.Goals as goal
 
-pub returns-then-total-lt128 : goal.returns-then-total-lt128
-unfolding shift
-returns-then-total-lt128 c = let t = c.args.total in by_lt t 128 _ 0 (highest_bit t - 6) (λ h. omega arith) (λ h. omega arith)
-
 pub overflow_sub-result : goal.overflow_sub-result
 overflow_sub-result c = omega (arith, c.highest_bit.ensures.0, seven_below c.args.total (omega arith))
 
