@@ -17,7 +17,7 @@ use list_rules::Quality;
 use words_rules::Bucket;
 
 // A bucket, and the entry where the next one starts.
-#[derive(Drop)]
+#[derive(Clone, Copy)]
 pub(crate) struct Placed {
     pub bucket: Bucket,
     pub next: usize,

@@ -17,14 +17,14 @@ const LIMIT: u32 = 1073741823;
 const SQRT_2_LESS_1: u32 = 1779033703;
 
 // What a count is coded as.
-#[derive(Drop)]
+#[derive(Clone, Copy)]
 pub enum Coded {
     Code(u32),
     Refused,
 }
 
 // What a class or a total code stands for.
-#[derive(Drop)]
+#[derive(Clone, Copy)]
 pub enum Meaning {
     Number(u32),
     Refused,

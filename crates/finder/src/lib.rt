@@ -9,7 +9,7 @@ ghost use Rattle.finder.specs.Place.{place_reply, place_of};
 use words_rules::{BUCKET_WORDS, HEAD_WORDS};
 
 // Where a bucket's first word stands, or the number of the refusal.
-#[derive(Drop)]
+#[derive(Clone, Copy)]
 pub enum Place {
     At(usize),
     Refused(u32),

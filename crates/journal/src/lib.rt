@@ -15,7 +15,7 @@ use lines::{Changed, replay_lines};
 use list::{copy_in, put_changed};
 
 // The sum of the list afterwards, or the number of the refusal.
-#[derive(Drop)]
+#[derive(Clone, Copy)]
 pub enum Replayed {
     Sum(u32),
     Refused(u32),

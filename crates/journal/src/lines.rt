@@ -5,7 +5,7 @@ ghost use Rattle.laws.specs.Sums.{sum};
 ghost use Rattle.journal.specs.Private.Changing.{changed_by, line_changed, line_left, lines_changed, LinesLeft, Replayable};
 
 // A count after its change, or that a bound is broken: it is below 0, or above the limit.
-#[derive(Drop)]
+#[derive(Clone, Copy)]
 pub(crate) enum Changed {
     To(u32),
     Broken,

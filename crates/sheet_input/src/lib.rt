@@ -12,7 +12,7 @@ use sheet_rules::{LEAST_NUMBERS, MOST_NUMBERS};
 
 // The first `count` values are the numbers, and those after them are 0; or the refusal 18, and the line where the input stops being as described,
 // counted from 1.
-#[derive(Drop)]
+#[derive(Clone, Copy)]
 pub struct Numbers {
     pub refusal: u32,
     pub line: usize,

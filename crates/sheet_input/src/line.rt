@@ -5,7 +5,7 @@ ghost use Rattle.sheet_rules.specs.Input.{digit};
 ghost use Rattle.sheet_input.specs.Private.Lines.{LineAt};
 
 // Its number and where the next line starts, or that it is no number or is not ended.
-#[derive(Drop)]
+#[derive(Clone, Copy)]
 pub(crate) enum Line {
     Number(u32, usize),
     Broken,

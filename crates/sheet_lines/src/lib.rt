@@ -17,7 +17,7 @@ use words_rules::Head;
 const MARK: u8 = b'#';
 
 // The first `length` bytes are the line, and those after them are 0.
-#[derive(Drop)]
+#[derive(Clone, Copy)]
 pub struct Line {
     pub bytes: [u8; LINE_BYTES],
     pub length: usize,

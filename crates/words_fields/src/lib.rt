@@ -34,7 +34,7 @@ pub fn total_of(third: u32) -> u32
 }
 
 // Three widths, from the highest bits down.
-#[derive(Drop)]
+#[derive(Clone, Copy)]
 struct Widths {
     a: u32,
     b: u32,
