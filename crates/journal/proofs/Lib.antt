@@ -1,3 +1,4 @@
+pub mod FaultLaws
 pub mod CountLaws
 pub mod LineLaws
 pub mod LoopLaws

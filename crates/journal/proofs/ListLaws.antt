@@ -58,3 +58,19 @@ but_for_lines fs es cs inside paired =
       inside = ap (λ (n : ℕ). some (length es) (λ i. not (ltb (entry_at es i) n))) (all_long fs es cs) ∙ inside;
       same = λ e h. sym (all_other fs es cs e (λ j l. h j (omega arith) (omega arith)));
     }
+
+-- the list while it is changed, and where the entry of line i stands
+pub record Putting (copy es fs : List ℕ) (i : ℕ) : Type 0 where
+  pub same : ElseSame copy es fs i
+  pub inside : i < length es → entry_at es i < length copy
+  pub placed : i < length es → entry_at es i < length fs
+  pub if_all : length es ≤ i → fs ≡ copy
+
+pub putting : (copy es fs : List ℕ) (i : ℕ) → ElseSame copy es fs i → Putting copy es fs i
+putting copy es fs i s =
+    record {
+      same = s;
+      inside = λ h. inside_at copy es s.inside i h;
+      placed = λ h. omega (arith, s.same_length, inside_at copy es s.inside i h);
+      if_all = λ h. all_put copy es fs i s h;
+    }

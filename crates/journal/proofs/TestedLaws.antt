@@ -18,6 +18,9 @@ use Rattle.list_rules.specs.Limits.{max_entries}
 use Rattle.list_rules.specs.Frequencies.{entries_fault, list_sentences, list_fault}
 use Rattle.journal_rules.specs.Replaying.{lines_fault, outside_fault, bound_fault, journal_sentences, replay_fault, after_all, replayed, replay_reply}
 use Rattle.journal_rules.proofs.ReplayLaws.{sum_within, bound_refused, none_refused, replay_refused, replay_answered, same_lines}
+use Rattle.laws.proofs.ReplyLaws.{refused_case}
+use Rattle.journal.specs.declared.Replayed.TheVariants.{Sum, Refused}
+use Rattle.journal.specs.Replayed.{replayed_of}
 use Rattle.journal.specs.declared.lines.Changed.TheVariants.{To, Broken}
 use Rattle.journal.specs.Private.Testing.{earlier_sentences, Tested}
 use Rattle.journal.specs.Private.Changing.{lines_changed}
@@ -28,6 +31,25 @@ module _ (fs es : List ℕ) (cs : List ℤ) where
   pub earlier_refused : (refusal (earlier_sentences fs es cs) ≡ 0 → ⊥) → replay_fault fs es cs ≡ refusal (earlier_sentences fs es cs)
   unfolding numbered
   earlier_refused h = append_refused (earlier_sentences fs es cs) (drop 2 (journal_sentences fs es cs)) refl h
+
+  -- the list's own sentences come first
+  pub list_refused : (list_fault fs ≡ 0 → ⊥) → list_fault fs ≡ refusal (earlier_sentences fs es cs)
+  unfolding numbered
+  list_refused h = sym (append_refused (list_sentences fs) (drop 2 (earlier_sentences fs es cs)) refl h)
+
+  -- where one of those before 27 is true, that is the refusal, and the list stays
+  module _ (n : ℕ) (e : n ≡ refusal (earlier_sentences fs es cs)) (z : n ≡ 0 → ⊥) where
+    earlier : (refused n ≡ replay_reply fs es cs) × (fs ≡ replayed fs es cs)
+    earlier = replay_refused fs es cs n (e ∙ sym (earlier_refused (λ p. z (e ∙ p)))) z
+
+    pub refused_reply : refused n ≡ replay_reply fs es cs
+    refused_reply = earlier.0
+
+    pub refused_of : Refused n ≡ replayed_of (replay_reply fs es cs)
+    refused_of = (refused_case Sum Refused n (replay_reply fs es cs) z earlier.0).1
+
+  pub refused_list : (refusal (earlier_sentences fs es cs) ≡ 0 → ⊥) → fs ≡ replayed fs es cs
+  refused_list z = let p = earlier (refusal (earlier_sentences fs es cs)) refl z in p.1
 
   module _ (tested : Tested fs es cs) where
     pub tested_list : list_fault fs ≡ 0

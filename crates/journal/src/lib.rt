@@ -25,6 +25,7 @@ pub enum Replayed {
 const MAX_ENTRIES: usize = 65536;
 
 // 25: whether there are too many lines, or entries and changes are not as many; by the lengths alone.
+#[tactic(auto, using(journal_rules::proofs::ReplayLaws::many_lines, crate::proofs::FaultLaws::few_lines))]
 fn lines_fault(entries: &[u32], changes: &[i32]) -> bool
     ensures { result ≡ lines_fault entries.now changes.now }
 {
@@ -46,6 +47,7 @@ fn outside_fault(freqs: &[u32], entries: &[u32]) -> bool
 }
 
 // 1, 3, 25 and 26: the first of these sentences that is true, else 0.
+#[tactic(auto, using(crate::proofs::TestedLaws::list_refused))]
 fn earlier_fault(freqs: &[u32], entries: &[u32], changes: &[i32]) -> u32
     ensures { result ≡ refusal (earlier_sentences freqs.now entries.now changes.now) }
 {
@@ -79,6 +81,7 @@ fn replay_over(freqs: &mut [u32], copy: &mut [u32], entries: &[u32], changes: &[
 
 // Replays the lines of a journal, each an entry and a change to its frequency, over a list. Not a word of the list is written before all lines have
 // passed. Refused with 1, 3, 25, 26 or 27, it writes nothing.
+#[tactic(auto, using(crate::proofs::TestedLaws::refused_reply, crate::proofs::TestedLaws::refused_of, crate::proofs::TestedLaws::refused_list))]
 pub fn replay(freqs: &mut [u32], entries: &[u32], changes: &[i32]) -> Replayed
     ensures reply { replayed_reply result ≡ replay_reply freqs.old entries.now changes.now }
     ensures case { result ≡ replayed_of (replay_reply freqs.old entries.now changes.now) }

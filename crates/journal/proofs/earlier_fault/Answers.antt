@@ -1,7 +1,7 @@
 -- `journal::earlier_fault` meets its contract: the list's sentences come first, then 25 and 26.
 -- Assumes nothing.
 use Rattle.std.proofs.Common.{arith, refl, sym, ◌≡◌, ◌∙◌, false, List, ℕ, ℤ, drop}
-use Rattle.laws.proofs.RefusalLaws.{numbered, Past, refused, passed, none_left, append_refused, append_passed}
+use Rattle.laws.proofs.RefusalLaws.{numbered, Past, refused, passed, none_left, append_passed}
 use Rattle.list_rules.specs.Frequencies.{list_sentences, list_fault}
 use Rattle.journal_rules.specs.Replaying.{lines_fault}
 use Rattle.journal.specs.Private.Testing.{earlier_sentences}
@@ -14,12 +14,6 @@ module _ (fs es : List ℕ) (cs : List ℤ) where
 
   past_25 : list_fault fs ≡ 0 → lines_fault es cs ≡ false → Past 3 (earlier_sentences fs es cs)
   past_25 e f = past_list e ∙ passed _ _ f
-
-pub returns-then-list-ne0 : goal.returns-then-list-ne0
-unfolding numbered
-returns-then-list-ne0 c =
-    let e = c.list_fault-list.ensures in
-    e ∙ sym (append_refused (list_sentences c.args.freqs.now) (drop 2 (earlier_sentences c.args.freqs.now c.args.entries.now c.args.changes.now)) refl (λ z. omega arith))
 
 pub returns-then-lines_fault : goal.returns-then-lines_fault
 returns-then-lines_fault c =

@@ -1,24 +1,13 @@
 -- `journal::replay` meets its contract: 1, 3, 25 and 26 come first, and after them there is room for a copy of the list.
 -- Assumes nothing.
-use Rattle.std.proofs.Common.{arith, sym, ◌∙◌, ℕ, ◌≤◌, length}
+use Rattle.std.proofs.Common.{arith, sym, ℕ, ◌≤◌, length}
 use Rattle.std.proofs.Math.ListN.{length-replicate}
 use Rattle.std.proofs.Math.Seq.{length-take-le}
 use Rattle.laws.specs.Padded.{zeros}
-use Rattle.laws.proofs.ReplyLaws.{refused_case}
 use Rattle.list_rules.specs.Limits.{max_entries}
-use Rattle.journal_rules.proofs.ReplayLaws.{replay_refused}
-use Rattle.journal.specs.declared.Replayed.TheVariants.{Sum, Refused}
 use Rattle.journal.specs.Private.Testing.{Tested}
-use Rattle.journal.proofs.TestedLaws.{earlier_refused, tested_room}
+use Rattle.journal.proofs.TestedLaws.{tested_room}
 use Rattle.journal.proofs.replay.Goals as goal
-
-pub returns-then-fault-ne0 : goal.returns-then-fault-ne0
-returns-then-fault-ne0 c =
-    let e = c.earlier_fault-fault.ensures in
-    let r = replay_refused c.args.freqs.now c.args.entries.now c.args.changes.now _
-    (e ∙ sym (earlier_refused c.args.freqs.now c.args.entries.now c.args.changes.now (λ z. omega arith))) (λ z. omega arith) in
-    let p = refused_case Sum Refused _ _ (λ z. omega arith) r.0 in
-    record { reply = p.0; case = p.1; freqs_after = r.1 }
 
 -- the first places of the array are as many as the list has
 room : (n : ℕ) → n ≤ max_entries → n ≤ length (zeros max_entries)
