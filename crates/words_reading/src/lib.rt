@@ -11,6 +11,7 @@ ghost use Rattle.words_reading.specs.Private.Testing.{broken};
 use words_rules::{BUCKET_WORDS, HEAD_WORDS};
 
 // 7, from the length and the head words alone. Of the third only bits 19 to 0 may be set.
+#[tactic(auto, unfolding(words_rules::specs::Reading::head_fault))]
 fn head_fault(words: &[u32]) -> bool
     ensures { result ≡ head_fault words.now }
 {
@@ -83,6 +84,7 @@ fn word_fault(words: &[u32]) -> bool
 }
 
 // 10
+#[tactic(auto, using(crate::proofs::StartSteps::first_start, crate::proofs::StartSteps::start_within, crate::proofs::StartSteps::start_after))]
 fn start_fault(words: &[u32]) -> bool
     ensures { result ≡ start_fault words.now }
 {

@@ -1,6 +1,6 @@
 -- `words_reading::has_broken` meets its contract: at the loop no bucket before b is broken.
 -- Assumes nothing.
-use Rattle.std.proofs.Common.{sym, ◌∙◌, arith}
+use Rattle.std.proofs.Common.{sym, arith}
 use Rattle.laws.proofs.EachLaws.{some_found, none_found}
 use Rattle.words_reading.proofs.has_broken.Goals as goal
 
