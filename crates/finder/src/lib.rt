@@ -16,6 +16,7 @@ pub enum Place {
 }
 
 // The number of the first sentence of 7, 24, 8 to 12 and 15 that is true of a list and an entry, or 0 where there is none.
+#[tactic(auto, using(words_rules::proofs::EntryLaws::fault_of_list, words_rules::proofs::EntryLaws::fault_of_entry, words_rules::proofs::EntryLaws::no_find_fault))]
 pub fn find_fault(words: &[u32], entry: u32) -> u32
     ensures { result ≡ find_fault words.now entry }
 {
@@ -31,6 +32,7 @@ pub fn find_fault(words: &[u32], entry: u32) -> u32
 
 // What halving comes to where it looks for the last bucket that does not start after the entry: the entry's bucket, if find_fault gives 0. Nothing is
 // tested here.
+#[tactic(auto, using(crate::proofs::HalvingSteps::turn_up, crate::proofs::HalvingSteps::turn_down))]
 pub fn bucket_of(words: &[u32], entry: u32) -> usize
     ensures { result ≡ bucket_by_halving words.now entry }
 {
@@ -48,6 +50,7 @@ pub fn bucket_of(words: &[u32], entry: u32) -> usize
 }
 
 // The place of the first word of the entry's bucket, or the number that find_fault gives.
+#[tactic(auto, using(words_rules::proofs::EntryLaws::place_refused))]
 pub fn find_place(words: &[u32], entry: u32) -> Place
     ensures reply { place_reply result ≡ find_reply words.now entry }
     ensures case { result ≡ place_of (find_reply words.now entry) }

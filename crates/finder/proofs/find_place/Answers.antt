@@ -2,13 +2,11 @@
 -- Assumes nothing.
 use Rattle.std.proofs.Common.{◌≡◌, ℕ, ◌+◌, ◌*◌, ◌≤◌, List, length, ap, ◌∙◌, arith}
 use Rattle.laws.specs.Reply.{answered, refused}
-use Rattle.laws.proofs.ReplyLaws.{refused_case}
 use Rattle.words_rules.specs.Finding.{find_fault, find_reply, bucket_of, bucket_by_halving}
 use Rattle.words_rules.proofs.Proved.{histogram}
 use Rattle.words_rules.proofs.EntryLaws.{found_readable, found_below, place_refused, place_found, bucket_within}
 use Rattle.words_rules.specs.Words.{head_words, bucket_words}
 use Rattle.finder.specs.Place.{place_of}
-use Rattle.finder.specs.declared.Place.TheVariants.{At, Refused}
 use Rattle.finder.proofs.find_place.Goals as goal
 
 -- halving comes to the entry's bucket
@@ -23,14 +21,6 @@ refusal ws e n z f = place_refused ws e n (λ o. z (f ∙ o)) f
 
 place : (ws : List ℕ) (e b : ℕ) → find_fault ws e ≡ 0 → b ≡ bucket_by_halving ws e → answered (head_words + bucket_words * b) ≡ find_reply ws e
 place ws e b f h = place_found ws e _ f (omega (arith, bucket ws e b f h))
-
-pub returns-then-number-ne0-clause-reply : goal.returns-then-number-ne0-clause-reply
-returns-then-number-ne0-clause-reply c = refusal _ _ _ (λ o. omega arith) c.find_fault-number.ensures
-
-pub returns-then-number-ne0-clause-case : goal.returns-then-number-ne0-clause-case
-returns-then-number-ne0-clause-case c =
-    let r = refusal c.args.words.now c.args.entry c.find_fault-number.result (λ o. omega arith) c.find_fault-number.ensures in
-    (refused_case At Refused c.find_fault-number.result _ (λ z. omega arith) r).1
 
 pub overflow_mul-result : goal.overflow_mul-result
 overflow_mul-result c = omega (arith, within c.args.words.now c.args.entry c.bucket_of.result (omega (arith, c.find_fault-number.ensures)) c.bucket_of.ensures)
