@@ -166,7 +166,11 @@ try_edit() { # ROOT CRATE COPY EDIT LOG
         install -D "$edit" "$inside/must-fail/$4" && (cd "$3" && bare rt must-fail "$2") >"$5"
         grep -q ': NOT REFUSED: ' "$5" || return
     else
-        apply_edit "$inside" "$edit" && (cd "$inside" && bare rt check --jobs 1) >"$5"
+        apply_edit "$inside" "$edit" || return
+        for _ in 1 2; do # one that was killed, most likely for memory, runs once more
+            (cd "$inside" && bare rt check --jobs 1) >"$5"
+            ! grep -q '^logic=' "$5" || break
+        done
         grep -q '^logic=' "$5" || return
     fi
     printf '%s\n' "$sum" >"${5%.log}.sum"
