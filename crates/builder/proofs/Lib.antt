@@ -1,2 +1,3 @@
 mod LayLaws
 mod FillLaws
+pub mod EarlyLaws

@@ -150,6 +150,7 @@ fn searched(freqs: &[u32], a: usize, b: Bound, known: Kept, end: Point) -> Kept
 }
 
 // What is kept with the ranges to the next end.
+#[tactic(auto, using(crate::proofs::EarlyLaws::none_heavy))]
 pub(crate) fn widened(freqs: &[u32], a: usize, b: Bound, known: Kept, end: Point) -> Kept
     requires { Widenable b freqs.now a known end }
     ensures { Widened b freqs.now a end.at result }

@@ -154,6 +154,7 @@ fn width_from(freqs: &[u32], a: usize, most: usize, q: Quality, known: Grown) ->
 
 // The width of the bucketlet at entry a. Kept from width to width: the greatest count/length of the ranges with a count above theta; of those whose
 // count times q is above theta the greatest length/count; and the length of the longest of the others, whose estimate may be up to theta.
+#[tactic(auto, using(crate::proofs::EarlyLaws::width_early_lem))]
 pub(crate) fn grow(freqs: &[u32], a: usize, most: usize, q: Quality) -> usize
     requires { Growable freqs.now a most q }
     ensures { result ≡ width q freqs.now a most }

@@ -50,35 +50,8 @@ module _ (fs : List ℕ) (theta qn qd : ℕ) (old : List ℕ) where
         let f = e ∙ sets-eq first old 0 (omega arith) ∙ ap (λ (k : ℕ). first ++ drop k old) (zero-add (length first) ∙ m) in
         record { reply_is = p.0; case_is = p.1; after = f ∙ r.1 }
 
-pub returns-then-fault-ne0-clause-reply : goal.returns-then-fault-ne0-clause-reply
-returns-then-fault-ne0-clause-reply c =
-    (faulty c.args.freqs.now c.args.theta c.args.qn c.args.qd c.args.out.now c.input_fault-fault.result c.input_fault-fault.ensures (λ z. omega arith)).reply_is
-
-pub returns-then-fault-ne0-clause-case : goal.returns-then-fault-ne0-clause-case
-returns-then-fault-ne0-clause-case c =
-    (faulty c.args.freqs.now c.args.theta c.args.qn c.args.qd c.args.out.now c.input_fault-fault.result c.input_fault-fault.ensures (λ z. omega arith)).case_is
-
-pub returns-then-fault-ne0-clause-out_after : goal.returns-then-fault-ne0-clause-out_after
-returns-then-fault-ne0-clause-out_after c =
-    (faulty c.args.freqs.now c.args.theta c.args.qn c.args.qd c.args.out.now c.input_fault-fault.result c.input_fault-fault.ensures (λ z. omega arith)).after
-
 pub put_words-n-requires : goal.put_words-n-requires
 put_words-n-requires c = (sound_of _ _ _ _ (let e = c.input_fault-fault.ensures in omega arith), omega arith)
-
-pub returns-then-out-n-clause-reply : goal.returns-then-out-n-clause-reply
-returns-then-out-n-clause-reply c =
-    let e = c.input_fault-fault.ensures in
-    (short c.args.freqs.now c.args.theta c.args.qn c.args.qd c.args.out.now (omega arith) c.put_words-n.new.words c.put_words-n.result c.put_words-n.ensures (omega arith)).reply_is
-
-pub returns-then-out-n-clause-case : goal.returns-then-out-n-clause-case
-returns-then-out-n-clause-case c =
-    let e = c.input_fault-fault.ensures in
-    (short c.args.freqs.now c.args.theta c.args.qn c.args.qd c.args.out.now (omega arith) c.put_words-n.new.words c.put_words-n.result c.put_words-n.ensures (omega arith)).case_is
-
-pub returns-then-out-n-clause-out_after : goal.returns-then-out-n-clause-out_after
-returns-then-out-n-clause-out_after c =
-    let e = c.input_fault-fault.ensures in
-    (short c.args.freqs.now c.args.theta c.args.qn c.args.qd c.args.out.now (omega arith) c.put_words-n.new.words c.put_words-n.result c.put_words-n.ensures (omega arith)).after
 
 pub returns-clause-reply : goal.returns-clause-reply
 returns-clause-reply c =

@@ -57,9 +57,6 @@ advanced-ready-requires c =
           };
     }
 
-pub returns-then-ready-eq0 : goal.returns-then-ready-eq0
-returns-then-ready-eq0 c = none c.args.b c.args.freqs.now c.args.a c.advanced-ready.result c.args.end c.requires.ending c.advanced-ready.ensures (omega arith)
-
 pub fraction-requires : goal.fraction-requires
 fraction-requires c =
     let r = range c.args.b c.args.freqs.now c.args.a c.advanced-ready.result c.args.end c.requires.ending c.advanced-ready.ensures in

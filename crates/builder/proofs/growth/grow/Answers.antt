@@ -1,19 +1,13 @@
 -- `builder::growth::grow` meets its contract. The first widths are those up to the smaller limit; if they all fit, growth goes on from there.
 -- Assumes nothing.
 use native.Mathlib.Omega.{arith}
-use Rattle.build_bounds.proofs.GrowLaws.{fits_wider, width_early}
+use Rattle.build_bounds.proofs.GrowLaws.{fits_wider}
 use Rattle.builder.proofs.growth.grow.Goals as goal
 
 pub first_widths-known-requires : goal.first_widths-known-requires
 first_widths-known-requires c =
     let e = c.narrower_of-few.ensures in
     record { sound = c.requires.sound; inside = omega (arith, c.requires.inside); narrow = omega (arith, c.requires.narrow) }
-
-pub returns-then-known-few : goal.returns-then-known-few
-returns-then-known-few c =
-    let g = c.first_widths-known.ensures in
-    width_early c.args.q c.args.freqs.now c.args.a c.requires.sound c.narrower_of-few.result c.args.most c.first_widths-known.result.reached
-    (omega (arith, c.narrower_of-few.ensures)) (omega arith) g.fits_to g.next
 
 pub width_from-requires : goal.width_from-requires
 width_from-requires c =

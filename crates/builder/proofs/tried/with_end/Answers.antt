@@ -18,6 +18,10 @@ use Rattle.build_bounds.proofs.TriedLaws.{bounds_row, bounds_step}
 use Rattle.builder.proofs.tried.with_end.Invariants.{Row}
 use Rattle.builder.proofs.tried.with_end.Goals as goal
 
+-- the entry before i, however its place is written
+read : (fs : List ℕ) (a i n j : ℕ) → n ≡ get_or fs j 0 → j ≡ a + (i - 1) → n ≡ get_or fs (a + (i - 1)) 0
+read fs a i n j e d = e ∙ ap (λ (k : ℕ). get_or fs k 0) d
+
 module _ (fs : List ℕ) (a w : ℕ) (q : Quality) (threshold : ℕ) (known : Bounds) (t : Tried q fs a w threshold known) where
   begins : Row fs a w q known.low known.up known.longest 0 w
   begins = record { start = omega arith; counts = omega arith; seen = bounds_row q fs a (w - 1) w known (omega (arith, t.some)) t.seen }
@@ -67,26 +71,26 @@ overflow_add-count c =
     omega (
       arith,
       small c.args.freqs.now c.args.a c.args.w c.args.q c.args.threshold c.args.known c.requires l.low l.up l.longest l.count l.i l.invariant (omega arith)
-          c.wide-count.result c.wide-count.ensures,
+          c.wide-count.result (read c.args.freqs.now c.args.a l.i c.wide-count.result _ c.wide-count.ensures (omega arith)),
     )
 
 pub greater_if_heavy-low-requires : goal.greater_if_heavy-low-requires
 greater_if_heavy-low-requires c =
     let l = c.loop-i in
     low_small c.args.freqs.now c.args.a c.args.w c.args.q c.args.threshold c.args.known c.requires l.low l.up l.longest l.count l.i l.invariant (omega arith)
-    c.wide-count.result c.wide-count.ensures
+    c.wide-count.result (read c.args.freqs.now c.args.a l.i c.wide-count.result _ c.wide-count.ensures (omega arith))
 
 pub greater_if_heavy-up-requires : goal.greater_if_heavy-up-requires
 greater_if_heavy-up-requires c =
     let l = c.loop-i in
     up_small c.args.freqs.now c.args.a c.args.w c.args.q c.args.threshold c.args.known c.requires l.low l.up l.longest l.count l.i l.invariant (omega arith)
-    c.wide-count.result c.wide-count.ensures
+    c.wide-count.result (read c.args.freqs.now c.args.a l.i c.wide-count.result _ c.wide-count.ensures (omega arith))
 
 pub loop-i-preserved : goal.loop-i-preserved
 loop-i-preserved c =
     let l = c.loop-i in
     step c.args.freqs.now c.args.a c.args.w c.args.q c.args.threshold c.args.known c.requires l.low l.up l.longest l.count l.i l.invariant (omega arith)
-    c.wide-count.result c.wide-count.ensures _ _ _ c.greater_if_heavy-low.ensures c.greater_if_heavy-up.ensures c.longer_of-longest.ensures
+    c.wide-count.result (read c.args.freqs.now c.args.a l.i c.wide-count.result _ c.wide-count.ensures (omega arith)) _ _ _ c.greater_if_heavy-low.ensures c.greater_if_heavy-up.ensures c.longer_of-longest.ensures
 
 pub returns : goal.returns
 returns c =
