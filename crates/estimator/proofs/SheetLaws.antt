@@ -2,12 +2,15 @@
 -- are small.
 -- Assumes nothing.
 use mathlib.Core.Path.{◌≡◌, sym, ap, subst, ◌∙◌}
+use mathlib.Core.Bool.{true}
 use mathlib.Core.List.{List}
 use Prim.Native.Nat.{ℕ, suc, ◌+◌, ◌-◌, ◌≤◌, ◌<◌}
 use native.Mathlib.Omega.{arith}
 use borrow.Author.Tests.{eqb-true, not-false}
 use Rattle.laws.proofs.EachLaws.{none_at}
+use Rattle.laws.proofs.Tests.{is_false}
 use Rattle.words_rules.specs.Words.{word, entries, buckets}
+use Rattle.words_rules.specs.Reading.{Readable}
 use Rattle.words_rules.specs.Finding.{bucket_of, bucket_by_halving}
 use Rattle.words_rules.proofs.Proved.{histogram}
 use Rattle.estimate_rules.specs.declared.Fraction.{Fraction}
@@ -25,6 +28,13 @@ total_is : (ws totals : List ℕ) → WithTotals ws totals → (i : ℕ) → i �
 unfolding totals_fault
 total_is ws totals t i h =
     eqb-true _ _ (not-false _ (none_at (total_places ws) (wrong_at ws totals) t.right i (omega arith)))
+
+-- where the sentence is not true of them, a place below those needed is right
+pub place_right : (ws totals : List ℕ) (i : ℕ) → (true ≡ totals_fault ws totals → ⊥) → i < total_places ws → word totals i ≡ running_total ws i
+unfolding totals_fault
+place_right ws totals i h l =
+    let f = is_false (totals_fault ws totals) (λ t. h (sym t)) in
+    eqb-true _ _ (not-false _ (none_at (total_places ws) (wrong_at ws totals) f i l))
 
 pub few : (ws totals : List ℕ) → WithTotals ws totals → buckets ws ≤ 65536
 few ws totals t = let l = histogram.limits ws t.readable in omega (arith, l.most_buckets, l.most_entries)
@@ -95,3 +105,21 @@ module _ (ws totals : List ℕ) (t : WithTotals ws totals) (x y : ℕ) (some : x
         all_is = λ d s r u e g h.
             all a b p q d s r u e g h ∙ ap (λ (n : ℕ). sum_of (suc n) (bucket_piece ws x y)) q ∙ sym (sum_last ws t.readable x y some within);
       }
+
+-- a range whose first and last entries are in one bucket
+
+module _ (ws : List ℕ) (x y a b : ℕ) (readable : Readable ws) (some : x < y) (within : y ≤ entries ws) where
+  one_last : a ≡ bucket_by_halving ws x → b ≡ bucket_by_halving ws (y - 1) → a ≡ b → (bucket_of ws x ≡ bucket_of ws (y - 1)) × (a ≡ bucket_of ws (y - 1))
+  one_last first last e =
+      let p = first ∙ (histogram.entries ws readable).halved x (omega arith) in
+      let q = last ∙ (histogram.entries ws readable).halved (y - 1) (omega arith) in
+      (sym p ∙ e ∙ q, e ∙ q)
+
+  pub one_piece : a ≡ bucket_by_halving ws x → b ≡ bucket_by_halving ws (y - 1) → a ≡ b → bucket_piece ws x y a ≡ exact ws x y
+  one_piece first last e =
+      let o = one_last first last e in
+      ap (bucket_piece ws x y) (o.1 ∙ sym o.0) ∙ sym ((by_totals ws readable x y some within).within_one o.0)
+
+  pub one_small : a ≡ bucket_by_halving ws x → b ≡ bucket_by_halving ws (y - 1) → a ≡ b → Small (bucket_piece ws x y a)
+  one_small first last e =
+      subst Small (sym (one_piece first last e ∙ sum_last ws readable x y some within)) (buckets_small ws readable x y _ (in_last ws readable x y some within).is_bucket)

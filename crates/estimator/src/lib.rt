@@ -45,6 +45,7 @@ pub enum Answered {
 }
 
 // 14: whether x is above y, or y above the number of entries.
+#[tactic(auto, unfolding(estimate_rules::specs::Asking::range_fault))]
 pub(crate) fn range_fault(words: &[u32], x: u32, y: u32) -> bool
     ensures { result ≡ range_fault words.now x y }
 {
@@ -52,6 +53,7 @@ pub(crate) fn range_fault(words: &[u32], x: u32, y: u32) -> bool
 }
 
 // 7, 24, 8 to 12 and 14: the first of these sentences that is true of a list and a range, else 0.
+#[tactic(auto, using(estimate_rules::proofs::AskingLaws::list_first, estimate_rules::proofs::AskingLaws::range_refused, estimate_rules::proofs::AskingLaws::range_passed))]
 pub fn ask_fault(words: &[u32], x: u32, y: u32) -> u32
     ensures { result ≡ ask_fault words.now x y }
 {
@@ -74,6 +76,7 @@ pub(crate) fn estimate_of(words: &[u32], x: u32, y: u32) -> u64
 }
 
 // The estimate of the range from x to y, 0 if it is empty.
+#[tactic(auto, using(crate::proofs::AskLaws::none_reply, crate::proofs::AskLaws::none_case))]
 pub fn estimate(words: &[u32], x: u32, y: u32) -> Asked
     ensures reply { asked_reply result ≡ estimate_reply words.now x y }
     ensures case { result ≡ asked_of (estimate_reply words.now x y) }

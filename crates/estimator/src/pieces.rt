@@ -66,6 +66,7 @@ pub(crate) fn plus(e: Fraction, f: Fraction) -> Fraction
     }
 }
 
+#[tactic(auto, unfolding(estimate_rules::specs::Fraction::rounded))]
 fn rounded_of(e: Fraction) -> u64
     requires { Small e }
     ensures { result ≡ rounded e }
@@ -82,6 +83,7 @@ pub(crate) fn answer_of(e: Fraction) -> u64
 }
 
 // What a bucketlet at a, of width w, that stands for s gives.
+#[tactic(auto, using(estimate_rules::proofs::ExactLaws::piece_none))]
 fn piece_of(x: u32, y: u32, a: u32, w: u32, s: u64) -> Fraction
     requires { (a + w < 2 ^ 32) × (s ≤ 2 ^ 31) }
     ensures { result ≡ piece x y a w s }
@@ -109,6 +111,7 @@ fn piece_of(x: u32, y: u32, a: u32, w: u32, s: u64) -> Fraction
 }
 
 // A sum and what a bucketlet at a, of width w and of a class, adds to it: nothing if the range holds no entry of it.
+#[tactic(auto, using(estimate_rules::proofs::ExactLaws::piece_none, estimate_rules::proofs::FractionLaws::plus_nothing))]
 fn with_piece(sum: Fraction, x: u32, y: u32, a: u32, w: u32, class: u32) -> Fraction
     requires { Addable sum x y a w class }
     ensures { result ≡ plus sum (piece x y a w (class_number base class)) }

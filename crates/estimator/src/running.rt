@@ -15,6 +15,7 @@ pub(crate) fn is_short(words: &[u32], lent: usize) -> bool
 }
 
 // 7, 24, 8 to 12 and 19: the first of these sentences that is true of a list and a number of lent places, else 0.
+#[tactic(auto, using(estimate_rules::proofs::WorksheetLaws::fill_read, estimate_rules::proofs::WorksheetLaws::fill_short, estimate_rules::proofs::WorksheetLaws::fill_none))]
 pub(crate) fn fill_fault(words: &[u32], lent: usize) -> u32
     ensures { result ≡ fill_fault words.now lent }
 {
@@ -45,6 +46,7 @@ pub(crate) fn put_totals(words: &[u32], out: &mut [u64]) -> usize
 }
 
 // 20: whether one of the places needed does not hold its running total.
+#[tactic(auto, using(crate::proofs::SheetLaws::place_right))]
 pub(crate) fn totals_fault(words: &[u32], totals: &[u64]) -> bool
     requires { Readable words.now × (total_places words.now ≤ length totals.now) }
     ensures { result ≡ totals_fault words.now totals.now }

@@ -29,6 +29,7 @@ fn short_fault(words: &[u32], totals: &[u64], sheet: &[u32], lent: usize) -> boo
 }
 
 // 7, 24, 8 to 12, 19, 20 and 21: the first of these sentences that is true, else 0.
+#[tactic(auto, using(estimate_rules::proofs::WorksheetLaws::sheet_read))]
 pub(crate) fn worksheet_fault(words: &[u32], totals: &[u64], sheet: &[u32], lent: usize) -> u32
     ensures { result ≡ worksheet_fault words.now totals.now sheet.now lent }
 {
@@ -49,6 +50,7 @@ pub(crate) fn worksheet_fault(words: &[u32], totals: &[u64], sheet: &[u32], lent
 }
 
 // The sum that estimates a range that isn't empty, not yet rounded: what the buckets of its two ends give, and the totals of those between.
+#[tactic(auto, using(crate::proofs::SheetLaws::one_piece, crate::proofs::SheetLaws::one_small))]
 fn exact_by(words: &[u32], totals: &[u64], x: u32, y: u32) -> Fraction
     requires { WithTotals words.now totals.now × (x < y) × (y ≤ entries words.now) }
     ensures value { result ≡ exact words.now x y }
@@ -69,6 +71,7 @@ fn exact_by(words: &[u32], totals: &[u64], x: u32, y: u32) -> Fraction
 }
 
 // The estimate of a range within the list, 0 if it is empty.
+#[tactic(auto, using(estimate_rules::proofs::Proved::estimate_empty))]
 fn estimate_by(words: &[u32], totals: &[u64], x: u32, y: u32) -> u64
     requires { WithTotals words.now totals.now × (x ≤ y) × (y ≤ entries words.now) }
     ensures { result ≡ estimate words.now x y }

@@ -5,7 +5,6 @@ use Rattle.laws.specs.Reply.{answered}
 use Rattle.laws.proofs.ReplyLaws.{answered_case, refused_case}
 use Rattle.estimate_rules.specs.Asking.{ask_fault}
 use Rattle.estimate_rules.proofs.AskingLaws.{asked_readable, asked_within, asked_refused, asked_answered}
-use Rattle.estimate_rules.proofs.Proved.{estimate_empty}
 use Rattle.estimator.specs.declared.Asked.TheVariants.{Estimate, Refused}
 use Rattle.estimator.proofs.estimate.Goals as goal
 
@@ -13,14 +12,6 @@ pub returns-then-fault-ne0 : goal.returns-then-fault-ne0
 returns-then-fault-ne0 c =
     let a = c.args in
     let p = refused_case Estimate Refused _ _ (λ z. omega arith) (asked_refused a.words.now a.x a.y _ c.ask_fault-fault.ensures (λ z. omega arith)) in
-    record { reply = p.0; case = p.1 }
-
-pub returns-then-x-y : goal.returns-then-x-y
-returns-then-x-y c =
-    let a = c.args in
-    let f : ask_fault a.words.now a.x a.y ≡ 0 = omega (arith, c.ask_fault-fault.ensures) in
-    let zero = estimate_empty a.words.now (asked_readable a.words.now a.x a.y f) a.x a.y (omega arith) in
-    let p = answered_case Estimate Refused 0 _ (ap answered zero ∙ asked_answered a.words.now a.x a.y f) in
     record { reply = p.0; case = p.1 }
 
 pub estimate_of-requires : goal.estimate_of-requires

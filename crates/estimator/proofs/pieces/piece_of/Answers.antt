@@ -1,13 +1,8 @@
 -- `estimator::pieces::piece_of` meets its contract: a bucketlet that is missed, held or cut.
 -- Assumes nothing.
 use Rattle.std.proofs.Common.{◌*◌, sym, ◌∙◌, arith}
-use Rattle.estimate_rules.proofs.ExactLaws.{piece_none, piece_whole, piece_cut}
+use Rattle.estimate_rules.proofs.ExactLaws.{piece_whole, piece_cut}
 use Rattle.estimator.proofs.pieces.piece_of.Goals as goal
-
-pub returns-then-n-eq0 : goal.returns-then-n-eq0
-returns-then-n-eq0 c =
-    let a = c.args in
-    sym (piece_none a.x a.y a.a a.w a.s (omega (arith, c.overlap_of-n.ensures)))
 
 pub returns-then-is_inside : goal.returns-then-is_inside
 returns-then-is_inside c =

@@ -33,7 +33,7 @@ loop-b-preserved c =
     let l = c.loop-b in
     let n = c.bucket_count-buckets.ensures in
     record {
-      summed = rw (add-one l.b) (omega (arith, c.bucket_total-sum.ensures, l.invariant.summed, running_next ws l.b));
+      summed = rw (add-one l.b) (omega (arith, l.invariant.summed, running_next ws l.b));
       written = one_written (total_places ws) (running_total ws) c.args.out.now c.requires.1 l.b l.out l.invariant.written l.sum (omega arith) l.invariant.summed;
     }
 

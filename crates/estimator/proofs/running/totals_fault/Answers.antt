@@ -2,8 +2,8 @@
 -- Assumes nothing.
 use Rattle.std.proofs.Common.{◌≡◌, suc, sym, ap, ◌∙◌, add-one, arith}
 use Rattle.std.specs.Prelude.{not, eqb}
-use borrow.Author.Tests.{eq-eqb, ne_eqb}
-use Rattle.laws.proofs.EachLaws.{none_yet, none_more, some_found, last_found}
+use borrow.Author.Tests.{eq-eqb}
+use Rattle.laws.proofs.EachLaws.{none_yet, none_more, last_found}
 use Rattle.words_rules.specs.Words.{word}
 use Rattle.estimate_rules.specs.Running.{running_total, total_places}
 use Rattle.estimate_rules.specs.Worksheet.{wrong_at, totals_fault}
@@ -14,14 +14,6 @@ pub loop-b-init : goal.loop-b-init
 loop-b-init c =
     let ws = c.args.words.now in
     record { summed = sym (running_none ws); right = none_yet (total_places ws) (wrong_at ws c.args.totals.now) }
-
-pub returns-then-totals-b : goal.returns-then-totals-b
-unfolding totals_fault
-returns-then-totals-b c =
-    let a = c.args in
-    let l = c.loop-b in
-    some_found (total_places a.words.now) (wrong_at a.words.now a.totals.now) l.b (omega (arith, c.bucket_count-buckets.ensures))
-    (ap not (ne_eqb (word a.totals.now l.b) (running_total a.words.now l.b) (λ e. omega (arith, l.invariant.summed))))
 
 pub overflow_add-right : goal.overflow_add-right
 overflow_add-right c =
@@ -42,7 +34,7 @@ loop-b-preserved c =
     let l = c.loop-b in
     let n = c.bucket_count-buckets.ensures in
     record {
-      summed = rw (add-one l.b) (omega (arith, c.bucket_total-right.ensures, l.invariant.summed, running_next ws l.b));
+      summed = rw (add-one l.b) (omega (arith, l.invariant.summed, running_next ws l.b));
       right =
           none_more (total_places ws) (wrong_at ws totals) l.b (omega arith) l.invariant.right
           (ap not (eq-eqb (word totals l.b) (running_total ws l.b) (omega (arith, l.invariant.summed))));

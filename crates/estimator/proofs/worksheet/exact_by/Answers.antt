@@ -16,11 +16,6 @@ found {ws} {totals} {x} {y} {a} {b} r p q = ends ws totals r.0 x y r.1 r.2 a b p
 pub bucket_piece-piece-requires : goal.bucket_piece-piece-requires
 bucket_piece-piece-requires c = (c.requires.0.readable, (found c.requires c.bucket_of-first.ensures c.bucket_of-last.ensures).first_in)
 
-pub returns-then-first-last : goal.returns-then-first-last
-returns-then-first-last c =
-    let p = (found c.requires c.bucket_of-first.ensures c.bucket_of-last.ensures).in_one (omega arith) _ c.bucket_piece-piece.ensures in
-    record { value = p.0; small = p.1 }
-
 pub offset_bounds-totals-last : goal.offset_bounds-totals-last
 offset_bounds-totals-last c =
     omega (arith, few c.args.words.now c.args.totals.now c.requires.0, (found c.requires c.bucket_of-first.ensures c.bucket_of-last.ensures).last_in)

@@ -1,15 +1,9 @@
 -- `estimator::worksheet::worksheet_fault` meets its contract: at each return the sentences before are false, and the one that it names is true.
 -- Assumes nothing.
-use Rattle.std.proofs.Common.{sym, ◌∙◌, arith}
+use Rattle.std.proofs.Common.{sym, arith}
 use Rattle.words_rules.specs.Reading.{Readable}
-use Rattle.estimate_rules.proofs.WorksheetLaws.{sheet_read, sheet_short, sheet_totals, sheet_ranges, sheet_none, totals_enough}
+use Rattle.estimate_rules.proofs.WorksheetLaws.{sheet_short, sheet_totals, sheet_ranges, sheet_none, totals_enough}
 use Rattle.estimator.proofs.worksheet.worksheet_fault.Goals as goal
-
-pub returns-then-read-ne0 : goal.returns-then-read-ne0
-returns-then-read-ne0 c =
-    let a = c.args in
-    let r = c.read_fault-read.ensures in
-    r ∙ sym (sheet_read a.words.now a.totals.now a.sheet.now a.lent (λ e. omega arith))
 
 pub returns-then-short_fault : goal.returns-then-short_fault
 returns-then-short_fault c =
