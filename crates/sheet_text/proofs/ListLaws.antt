@@ -10,7 +10,7 @@ use native.Mathlib.Omega.{arith}
 use borrow.Author.Tests.{eqb-true, eqb-false, eq-eqb, le-ltb}
 use lib.Dec.{eqb, ltb}
 use lib.ListN.{length, get_or, take, drop}
-use lib.Seq.{take_at, take-nil, get_or-take}
+use lib.Seq.{sets, take_at, take-nil, get_or-take}
 use Rattle.laws.specs.Refusal.{Sentence, refusal}
 use Rattle.laws.specs.Reply.{Reply, answered, refused}
 use Rattle.laws.proofs.Tests.{tested, is_false}
@@ -211,3 +211,24 @@ module _ (input : List ℕ) (r : Numbers) (e : r ≡ input_numbers input) where
         (by_numbers (λ (fs : List ℕ) (theta qn qd : ℕ). refusal (input_sentences fs theta qn qd)) ∙ sym (fault_read input described))
         (ap (λ (t : Bool). cond t 0 (fault_line input)) (sym described))
         (by_numbers list_sheet ∙ sym (sheet_read input described))
+
+-- ---- an input that is not as described, by what is read of it
+
+module _ (input : List ℕ) (z : (input_numbers input).refusal ≡ 0 → ⊥) where
+  abbrev said : List ℕ
+  said = refused_line (input_numbers input).refusal
+
+  pub refused_value : (n l k : ℕ) → n ≡ (input_numbers input).refusal → l ≡ (input_numbers input).line
+      → k ≡ length (refused_line (input_numbers input).refusal) → record { refusal = n; line = l; length = k } ≡ printed_of input
+  refused_value n l k a b e =
+      let p : Printed = record { refusal = n; line = l; length = k } in
+      let q = refused_all input (input_numbers input) refl z [] (sets [] 0 said) p
+      (record { refused = a; at_line = b; text_put = record { bytes = refl; ends = omega (arith, e) } }) in
+      q.0
+
+  pub refused_out : (old : List ℕ) → sets old 0 (refused_line (input_numbers input).refusal) ≡ filled old (sheet input)
+  refused_out old =
+      let p : Printed = record { refusal = (input_numbers input).refusal; line = (input_numbers input).line; length = length said } in
+      let a = refused_all input (input_numbers input) refl z old (sets old 0 said) p
+      (record { refused = refl; at_line = refl; text_put = record { bytes = refl; ends = omega arith } }) in
+      a.1

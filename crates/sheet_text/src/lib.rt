@@ -56,6 +56,7 @@ fn put_list(freqs: &[u32], theta: u32, qn: u32, qd: u32, out: &mut [u8; SHEET_BY
 }
 
 // Fills the first bytes of `out` with what is printed for an input; those after them are as they were.
+#[tactic(auto, using(crate::proofs::ListLaws::refused_value, crate::proofs::ListLaws::refused_out))]
 pub fn put_sheet(input: &[u8], out: &mut [u8; SHEET_BYTES]) -> Printed
     ensures value { result ≡ printed_of input.now }
     ensures out_after { out.new ≡ filled out.old (sheet input.now) }

@@ -28,6 +28,7 @@ pub(crate) fn put(line: Line, out: &mut [u8; SHEET_BYTES], at: usize) -> usize
 }
 
 // Bucketlet k, which starts at an entry; nothing if it is empty.
+#[tactic(auto, unfolding(sheet_rules::specs::Sheet::bucketlet_part))]
 fn put_bucketlet(
     bucket: Bucket,
     k: usize,

@@ -2,15 +2,8 @@
 -- definition. Assumes nothing.
 use Rattle.std.proofs.Common.{arith, rules, ◌≡◌, length}
 use Rattle.sheet_rules.specs.Limits.{most_numbers}
-use Rattle.sheet_text.proofs.ListLaws.{refused_all, count_many, read_all}
+use Rattle.sheet_text.proofs.ListLaws.{count_many, read_all}
 use Rattle.sheet_text.proofs.put_sheet.Goals as goal
-
-pub returns-then-read-ne0 : goal.returns-then-read-ne0
-returns-then-read-ne0 c =
-    let r = c.numbers_of-read in
-    let l = c.put_refused in
-    let p = refused_all c.args.input.now r.result r.ensures (λ z. omega arith) c.args.out.now _ l.result l.ensures in
-    record { value = p.0; out_after = p.1 }
 
 pub slice_bounds-put_list-count : goal.slice_bounds-put_list-count
 slice_bounds-put_list-count c =

@@ -1,28 +1,22 @@
 -- `sheet_text::printing::put_bucketlet` meets its contract: an empty bucketlet has no line, and the class of any other is in use, so that its number is
 -- read. Assumes nothing.
 use Rattle.std.proofs.Common.{arith, refl, ap, ◌≡◌, ◌∙◌, ◌+◌, ◌<◌, ℕ, suc}
-use mathlib.Core.Path.{subst⁻¹}
 use Rattle.counts.proofs.CallLaws.{class_number_lem}
 use Rattle.words_rules.specs.declared.Bucket.{Bucket}
 use Rattle.words_rules.specs.Decoded.{class_at, width_at, number_at, bucketlet_start}
 use Rattle.words_rules.proofs.EntryLaws.{bucketlet_end_lem}
 use Rattle.sheet_rules.specs.Sheet.{bucketlet_part}
 use Rattle.sheet_rules.specs.Lines.{bucketlet_line}
-use Rattle.sheet_rules.proofs.SheetLaws.{empty_part, bucketlet_short}
+use Rattle.sheet_rules.proofs.SheetLaws.{bucketlet_short}
 use Rattle.sheet_lines.specs.declared.Line.{Line}
 use Rattle.sheet_lines.specs.Line.{line_of}
-use Rattle.sheet_text.specs.Private.Printing.{Put}
-use Rattle.sheet_text.proofs.PrintLaws.{put_nothing, part_line, line_room, put_line}
+use Rattle.sheet_text.proofs.PrintLaws.{part_line, line_room, put_line}
 use Rattle.sheet_text.proofs.printing.put_bucketlet.Goals as goal
 
 -- the line is that of the definition
 line : (r : Bucket) (k start number : ℕ) (l : Line) → 0 < width_at r k → start ≡ bucketlet_start r k → number ≡ number_at r k
     → l ≡ line_of (bucketlet_line start (start + width_at r k) (class_at r k) number) → l ≡ line_of (bucketlet_part r k)
 line r k start number l w s n e = e ∙ ap line_of (part_line r k start _ _ _ w s refl refl n)
-
-pub returns-then-width-eq0 : goal.returns-then-width-eq0
-returns-then-width-eq0 c =
-    subst⁻¹ (Put c.args.out.now c.args.out.now c.args.at c.args.at) (empty_part c.args.bucket c.args.k (omega arith)) (put_nothing c.args.out.now c.args.at)
 
 -- the class is in use, so that the call answers with its number
 pub returns-in_default : goal.returns-in_default
