@@ -22,11 +22,13 @@ returns-then-lines_fault c =
 
 pub returns-then-outside_fault : goal.returns-then-outside_fault
 returns-then-outside_fault c =
-    sym (past_25 c.args.freqs.now c.args.entries.now c.args.changes.now (omega (arith, c.list_fault-list.ensures)) (sym c.lines_fault.ensures ∙ c.if-lines_fault.false)
+    sym (past_25 c.args.freqs.now c.args.entries.now c.args.changes.now (omega (arith, c.list_fault-list.ensures))
+    (sym c.lines_fault.ensures ∙ c.if-lines_fault.false)
     ∙ refused _ _ (sym c.outside_fault.ensures ∙ c.if-outside_fault.true))
 
 pub returns : goal.returns
 returns c =
-    sym (past_25 c.args.freqs.now c.args.entries.now c.args.changes.now (omega (arith, c.list_fault-list.ensures)) (sym c.lines_fault.ensures ∙ c.if-lines_fault.false)
+    sym (past_25 c.args.freqs.now c.args.entries.now c.args.changes.now (omega (arith, c.list_fault-list.ensures))
+    (sym c.lines_fault.ensures ∙ c.if-lines_fault.false)
     ∙ passed _ _ (sym c.outside_fault.ensures ∙ c.if-outside_fault.false)
     ∙ none_left)

@@ -18,9 +18,13 @@ slice_bounds-copy-end c = tested_room c.args.freqs.now c.args.entries.now c.args
 
 pub slice_bounds-replay_over-end : goal.slice_bounds-replay_over-end
 slice_bounds-replay_over-end c =
-    sym (length-take-le _ (zeros max_entries) (room (length c.args.freqs.now) (tested_room c.args.freqs.now c.args.entries.now c.args.changes.now (omega (arith, c.earlier_fault-fault.ensures)))))
+    sym (length-take-le _ (zeros max_entries) (room (length c.args.freqs.now)
+    (tested_room c.args.freqs.now c.args.entries.now c.args.changes.now (omega (arith, c.earlier_fault-fault.ensures)))))
 
 pub replay_over-requires : goal.replay_over-requires
 replay_over-requires c =
-    let tested : Tested c.args.freqs.now c.args.entries.now c.args.changes.now = omega (arith, c.earlier_fault-fault.ensures) in
-    (tested, length-take-le _ (zeros max_entries) (room (length c.args.freqs.now) (tested_room c.args.freqs.now c.args.entries.now c.args.changes.now tested)))
+    let tested : Tested c.args.freqs.now c.args.entries.now c.args.changes.now = omega (arith, c.earlier_fault-fault.ensures) in (
+      tested,
+      length-take-le _ (zeros max_entries) (room (length c.args.freqs.now)
+          (tested_room c.args.freqs.now c.args.entries.now c.args.changes.now tested)),
+    )

@@ -65,7 +65,8 @@ returns c =
     let es = c.args.entries.now in
     let cs = c.args.changes.now in
     let same = c.copy_in-sum.ensures.copy_after in
-    let d = replay_done fs es cs c.requires.0 c.in-To.moved (to_all fs es _ _ cs c.in-To.moved same c.requires.0 c.in-To.ensures.value c.in-To.ensures.lines_left) in
+    let d = replay_done fs es cs c.requires.0 c.in-To.moved
+    (to_all fs es _ _ cs c.in-To.moved same c.requires.0 c.in-To.ensures.value c.in-To.ensures.lines_left) in
     let p = answered_case Sum Refused _ _ d.0 in
     record {
       reply = p.0;

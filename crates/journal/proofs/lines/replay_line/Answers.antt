@@ -19,7 +19,8 @@ returns-in_default-with_change c =
     let b = line_broken fs c.args.entry c.args.change
     (sum_broken fs c.args.entry c.args.change c.requires.0 c.in-To.frequency
     (c.in-To.ensures ∙ ap (λ (z : ℤ). changed_by (get_or fs c.args.entry 0) z) (to_z-of_z c.ranges.change))
-    (c.in_default-with_change.ensures ∙ ap (λ (z : ℤ). changed_by c.args.old z) (to_z-of_z c.ranges.change) ∙ ap (λ (n : ℕ). changed_by n c.args.change) c.requires.1)) in
+    (c.in_default-with_change.ensures ∙ ap (λ (z : ℤ). changed_by c.args.old z) (to_z-of_z c.ranges.change)
+    ∙ ap (λ (n : ℕ). changed_by n c.args.change) c.requires.1)) in
     record { value = b.0; freqs_after = b.1 }
 
 pub returns : goal.returns
@@ -27,5 +28,6 @@ returns c =
     let fs = c.args.freqs.now in
     let b = both_within fs c.args.entry c.args.change c.requires.0 c.in-To.frequency c.in-To-with_change.moved
     (c.in-To.ensures ∙ ap (λ (z : ℤ). changed_by (get_or fs c.args.entry 0) z) (to_z-of_z c.ranges.change))
-    (c.in-To-with_change.ensures ∙ ap (λ (z : ℤ). changed_by c.args.old z) (to_z-of_z c.ranges.change) ∙ ap (λ (n : ℕ). changed_by n c.args.change) c.requires.1) in
+    (c.in-To-with_change.ensures ∙ ap (λ (z : ℤ). changed_by c.args.old z) (to_z-of_z c.ranges.change)
+    ∙ ap (λ (n : ℕ). changed_by n c.args.change) c.requires.1) in
     record { value = b.0; freqs_after = b.1 }
