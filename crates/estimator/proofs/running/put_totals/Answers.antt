@@ -21,7 +21,6 @@ overflow_add-sum c =
     let l = c.loop-b in
     omega (
       arith,
-      c.bucket_total-sum.ensures,
       l.invariant.summed,
       running_next ws l.b,
       running_small ws c.requires.0 (suc l.b) (omega (arith, c.bucket_count-buckets.ensures)),
