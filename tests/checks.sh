@@ -1,4 +1,5 @@
 # shellcheck shell=bash
+# shellcheck disable=SC2154 # stored_promises is of tests/promises.sh
 # What rt does not look at by itself. Each check takes the repository's root, and those of a run also the saved output of `rt ci`, that of the
 # controls, or the numbers of tests that passed. It prints a line `FAIL: ..` for each fault and fails if there was one.
 

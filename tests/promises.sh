@@ -1,4 +1,5 @@
 # shellcheck shell=bash
+# shellcheck disable=SC2154 # data_records is of tests/checks.sh
 # What the product promises, as a text of one line for each promise: docs/PROMISES.txt has it stored. A proof that breaks shows that a program no longer
 # meets its contract; that a contract or a claim has become a weaker one breaks no proof, and only a comparison with the stored text shows it.
 
