@@ -51,8 +51,8 @@
  *     memcpy and memset are used.
  *
  * Where it runs
- *   libqh.a links into programs for Linux on x86-64 only: the compiler of the proved code has no other target. For any
- *   other device there is a separately written program in the repository's reference/, in plain Rust. It is not proved;
+ *   libqh.a links into programs for Linux on x86-64 only, for any processor of that kind, and is built for no other target.
+ *   For any other device there is a separately written program in the repository's reference/, in plain Rust. It is not proved;
  *   the tests compare it with libqh.a on millions of inputs.
  *
  * Outside the proof

@@ -315,11 +315,11 @@ edits_were_refused() { # ROOT OUTPUT
 programs_were_refused() { # ROOT OUTPUT
     local faults=0 edit crate log program refused functions function seen
     while IFS= read -r edit; do
+        grep -qs '^logic=not-proved$' "$1/target/must-fail/$edit.log" || fault "must-fail $edit has left no log in which it is refused"
+    done < <(edit_labels "$1")
+    while IFS= read -r edit; do
         crate=${edit%%/*} log=$1/target/must-fail/$edit.log
-        if ! grep -qs '^logic=not-proved$' "$log"; then
-            fault "must-fail $edit has left no log in which it is refused"
-            continue
-        fi
+        grep -qs '^logic=not-proved$' "$log" || continue
         refused=$(refused_functions "$crate" "$log")
         functions=$(edit_changes "$1/crates/$crate" "$1/crates/$crate/must-fail/${edit#*/}.edit")
         while IFS= read -r program; do
@@ -339,18 +339,20 @@ programs_were_refused() { # ROOT OUTPUT
 
 # Where a proof no longer fits the text, or the prover came to a limit, rt says that it is refused as where the program is wrong; the prover's words tell of it.
 edits_keep_the_form() { # ROOT OUTPUT
-    local faults=0 bodies edit crate log said phrase function shown
+    local faults=0 bodies edit crate log said text phrase function shown
     bodies=$(edits_of_bodies "$1")
     while IFS= read -r edit; do
         crate=${edit%%/*} log=$1/target/must-fail/$edit.log said=$(said_of_edit "$2" "$edit")
         for phrase in 'only because a proof file names what the edit took away' 'only by a limit of the prover'; do
             [[ $said != *"($phrase"* ]] || fault "must-fail $edit was refused $phrase"
         done
-        if ! has_entry "$bodies" "$edit"; then # of what has no log rt ci tells the first error
+        [ -f "$log" ] || continue # programs_were_refused names it
+        if ! has_entry "$bodies" "$edit"; then # of a constant, a contract or a definition, on which any proof may rest
+            text=$(tr -s '[:space:]' ' ' <"$log") # the prover breaks its lines anywhere
             for phrase in "${form_phrases[@]}"; do
-                [[ $said != *"$phrase"* ]] || fault "must-fail $edit breaks the form of a proof: rt ci says '$phrase'"
+                [[ $text != *"$phrase"* ]] || fault "must-fail $edit breaks the form of a proof: its log says '$phrase'"
             done
-        elif [ -f "$log" ]; then # programs_were_refused names it if there is none
+        else
             shown=$(refused_functions "$crate" "$log" "${form_phrases[@]}")
             while IFS= read -r function; do
                 has_entry "$shown" "$function" || fault "must-fail $edit breaks the form of the proof of $function, and nothing else of it is refused"
@@ -417,8 +419,8 @@ assumed_too_much() { # KIND
         END { if (counted + 0 != named + 0) print "assumes " counted + 0 " functions and names " named + 0 }'
 }
 
-# A program may rest on the contracts of libc and os, which the kit declares for std, and on nothing else; a library on none. What an earlier run proved
-# says no more of it.
+# A program may rest on the contracts of libc and os, which the kit declares for std, and on nothing else; a library on none. Of a crate that an
+# earlier run proved `rt ci` says no more, so what `rt all check` said of each is asked as well.
 only_libc_is_assumed() { # ROOT OUTPUT
     local faults=0 name kind line
     for name in $(crate_names "$1"); do

@@ -2,8 +2,8 @@
 # Reading wrong programs and controls. A file crates/NAME/must-fail/group_*.edit holds several wrong programs, each begun by a line `# PROGRAM: what
 # it does wrong`; any other file there holds one, which has the file's name. crates/NAME/controls.edit holds edits that keep the meaning, and for a
 # function that has none a line `# none for FUNCTION: REASON`. A function is named as its proof is in proofs/: MODULE/FUNCTION, or FUNCTION in the root.
-# What the prover says of an edit of the bodies of functions alone is kept in target/must-fail/CRATE/LABEL.log, and what `rt must-fail` says of the controls in
-# target/controls/CRATE.log, each beside a sum of all that it was said of.
+# What the prover says of an edit is kept in target/must-fail/CRATE/LABEL.log, and what `rt must-fail` says of the controls in target/controls/CRATE.log, each
+# beside a sum of all that it was said of.
 
 # Prints CRATE/LABEL for each must-fail edit, the name by which rt calls it.
 edit_labels() { # ROOT
@@ -68,10 +68,9 @@ edit_changes() { # CRATE_FOLDER EDIT_FILE
 
 # Prints CRATE/LABEL for each edit that changes the bodies of functions alone: of these it can be seen where they are refused. Every file with several wrong
 # programs is to be one.
-edits_of_bodies() { # ROOT [CRATE]
+edits_of_bodies() { # ROOT
     local edit changes
     while IFS= read -r edit; do
-        [ -z "${2-}" ] || [ "${edit%%/*}" = "$2" ] || continue
         changes=$(edit_changes "$1/crates/${edit%%/*}" "$1/crates/${edit%%/*}/must-fail/${edit#*/}.edit")
         [ -z "$changes" ] || grep -q ' -$' <<<"$changes" || echo "$edit"
     done < <(edit_labels "$1")
@@ -153,7 +152,7 @@ copy_crate() { # ROOT CRATE COPY
 
 # Tries an edit in the copy and keeps what is said: of wrong programs by a check of the crate with all of them made, of controls by `rt must-fail`.
 try_edit() { # ROOT CRATE COPY EDIT LOG
-    local edit=$1/crates/$2/$4 inside=$3/crates/$2 sum
+    local edit=$1/crates/$2/$4 inside=$3/crates/$2 sum part
     sum=$(sum_of_try "$1" "$2" "$edit")
     ! is_tried "$5" "$sum" || return 0
     mkdir -p "${5%/*}" && rm -f "$5" "${5%.log}.sum" || return
@@ -161,7 +160,9 @@ try_edit() { # ROOT CRATE COPY EDIT LOG
         rm -rf "$3"
         return 1
     }
-    rm -rf "$inside/src" && cp -R "$1/crates/$2/src" "$inside/src" || return
+    for part in src specs; do
+        [ ! -d "$1/crates/$2/$part" ] || { rm -rf "${inside:?}/$part" && cp -R "$1/crates/$2/$part" "$inside/$part"; } || return
+    done
     if [ "$4" = controls.edit ]; then
         install -D "$edit" "$inside/must-fail/$4" && (cd "$3" && bare rt must-fail "$2") >"$5"
         grep -q ': NOT REFUSED: ' "$5" || return
@@ -179,7 +180,7 @@ try_edit() { # ROOT CRATE COPY EDIT LOG
 # Tries all that one crate has to be tried with beside `rt ci`.
 try_crate() { # ROOT CRATE COPY
     local label
-    for label in $(edits_of_bodies "$1" "$2" | sed 's|.*/||'); do
+    for label in $(edit_labels "$1" | sed -n "s|^$2/||p"); do
         try_edit "$1" "$2" "$3" "must-fail/$label.edit" "$1/target/must-fail/$2/$label.log"
     done
     ! grep -qs '^new:' "$1/crates/$2/controls.edit" || # only reasons why there are none
