@@ -1,7 +1,8 @@
 # shellcheck shell=bash
 # Reading wrong programs and controls. A file crates/NAME/must-fail/group_*.edit holds several wrong programs, each begun by a line `# PROGRAM: what
 # it does wrong`; any other file there holds one, which has the file's name. crates/NAME/controls.edit holds edits that keep the meaning, and for a
-# function that has none a line `# none for FUNCTION: REASON`. A function is named as its proof is in proofs/: MODULE/FUNCTION, or FUNCTION in the root.
+# function that has none a line `# none for FUNCTION: REASON`. A function is named as its proof is in proofs/: MODULE/FUNCTION, or FUNCTION in the root, with
+# TYPE/ before a method, MODULE then being that of its type.
 # What the prover says of an edit is kept in target/must-fail/CRATE/LABEL.log, and what `rt must-fail` says of the controls in target/controls/CRATE.log, each
 # beside a sum of all that it was said of.
 
@@ -10,32 +11,57 @@ edit_labels() { # ROOT
     tree_paths "$1" -path './crates/*/must-fail/*.edit' | sed 's|^crates/\(.*\)/must-fail/\(.*\)\.edit$|\1/\2|'
 }
 
+# Prints `TYPE MODULE/` for each type of a crate, `TYPE` alone in the root.
+type_modules() { # CRATE_FOLDER
+    local file module
+    while IFS= read -r file; do
+        module=${file#"$1"/src/} && module=${module%.rt}/
+        case $module in lib/ | main/) module='' ;; esac
+        sed -nE "s|^(pub(\([a-z]+\))? )?(struct\|enum) ([A-Za-z0-9_]+).*|\4 $module|p" "$file"
+    done < <(find "$1/src" -name '*.rt' | sort)
+}
+
 # Prints `PROGRAM FUNCTION` for each replacement of an edit that changes something, made one after the other as rt makes them; the function whose body
 # it changes is `-` where the old text is in no body, or in several places.
 edit_changes() { # CRATE_FOLDER EDIT_FILE
     local label=${2##*/}
-    awk -v crate="$1" -v label="${label%.edit}" '
+    types=$(type_modules "$1") awk -v crate="$1" -v label="${label%.edit}" '
         function load(file,    line) {
             if (file in size) return
             size[file] = 0
             while ((getline line <(crate "/" file)) > 0) text[file, ++size[file]] = line
             close(crate "/" file)
         }
+        # the module and the type of a line that begins an impl, the trait after it if there is one
+        function impl_of(line,    trait) {
+            sub(/^impl(<[^>]*>)? /, "", line)
+            if (match(line, /^[^{]* for /)) {
+                trait = substr(line, 1, RLENGTH - 5)
+                line = substr(line, RLENGTH + 1)
+                gsub(/.*::|[<>]/, "", trait)
+            }
+            match(line, /^[A-Za-z0-9_]+/)
+            line = substr(line, 1, RLENGTH)
+            return module_of[line] line trait "/"
+        }
         # the function whose body holds `old`, at line `at`: rt fmt puts the last brace of a body under its `fn`
-        function function_of(file,    module, n, line, name, indent, inside, found, times) {
+        function function_of(file,    module, n, line, name, indent, inside, found, times, within) {
             module = substr(file, length("src/") + 1)
             sub(/\.rt$/, "/", module)
             if (module == "lib/" || module == "main/") module = ""
             for (n = 1; n <= size[file]; n++) {
                 line = text[file, n]
+                if (line ~ /^impl/) within = impl_of(line)
+                if (line == "}") within = ""
                 if (line == indent "}") inside = 0
                 if (index(line, old)) {
                     times++
                     at = n
-                    found = inside ? module name : "-"
+                    found = inside ? within_name name : "-"
                 }
                 if (match(line, /^ *(pub(\([a-z]+\))? )?(extern "C" )?fn [a-z0-9_]+/)) {
                     name = substr(line, 1, RLENGTH)
+                    within_name = within == "" ? module : within
                     indent = name
                     sub(/[^ ].*/, "", indent)
                     sub(/.* /, "", name)
@@ -47,6 +73,11 @@ edit_changes() { # CRATE_FOLDER EDIT_FILE
         BEGIN {
             grouped = label ~ /^group_/
             program = grouped ? "-" : label
+            types = split(ENVIRON["types"], type, "\n")
+            for (n = 1; n <= types; n++) {
+                split(type[n], part, " ")
+                module_of[part[1]] = part[2]
+            }
         }
         grouped && /^# [a-z0-9_]+: ./ { program = substr($2, 1, length($2) - 1) }
         /^file: / {
@@ -194,6 +225,11 @@ refused_functions() { # CRATE LOG [PHRASE..]
     local phrases
     phrases=$(printf '%s\n' "${@:3}")
     phrases=$phrases awk -v crate="$1" '
+        # a closure is one with the function that holds it: fn/FUNCTION/CLOSURE
+        function holder_of(name) {
+            if (sub(/^fn\//, "", name) || sub(/\/fn\//, "/", name)) sub(/\/[^\/]*$/, "", name)
+            return name
+        }
         function conclude(    n, shows) {
             gsub(/[ \t]+/, " ", text)
             shows = failing != "" && text !~ /was not admitted/
@@ -207,6 +243,7 @@ refused_functions() { # CRATE LOG [PHRASE..]
             failing = $0
             sub(/^(\.\/)?proofs\//, "", failing)
             sub(/\/[A-Za-z]*\.antt:.*/, "", failing)
+            failing = holder_of(failing)
         }
         { text = text " " $0 }
         /^note: src\/.*: it is not proved that .*; the facts known there allow values at which this goal is false/ { open = 1 }
@@ -214,7 +251,7 @@ refused_functions() { # CRATE LOG [PHRASE..]
             if ((/: no proof: .*`search` did not prove / || open && /: not proved/) && index($2, crate "::") == 1) {
                 name = substr($2, length(crate) + 3, length($2) - length(crate) - 3)
                 gsub(/::/, "/", name)
-                print name
+                print holder_of(name)
             }
             open = 0
         }

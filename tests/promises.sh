@@ -20,13 +20,21 @@ open_items() { # CRATE SOURCE MODULE
             else for (n = 0; n <= clauses; n++) print place " " name ": " squeeze(part[n])
             name = attributes = ""
         }
-        # the name of what a line begins, or nothing
+        # the name of what a line begins, or nothing; in an impl after its type
         function begun(line) {
             sub(/^ *(pub )?(extern "C" )?/, "", line)
-            sub(/^(fn|struct|enum|const|mod|trait|type|use) /, "", line)
-            return match(line, /^[A-Za-z0-9_]+/) ? substr(line, 1, RLENGTH) : "-"
+            sub(/^(fn|struct|enum|const|mod|trait|type|use|ghost) /, "", line)
+            return match(line, /^[A-Za-z0-9_]+/) ? within substr(line, 1, RLENGTH) : "-"
+        }
+        # the type of an impl, with :: behind it
+        function type_of(line) {
+            sub(/^impl(<[^>]*>)? /, "", line)
+            sub(/^[^{]* for /, "", line)
+            return match(line, /^[A-Za-z0-9_]+/) ? substr(line, 1, RLENGTH) "::" : ""
         }
         { sub(/(^| )\/\/.*/, "") }
+        /^impl/ { within = type_of($0) }
+        /^\}/ && name == "" { within = "" }
         # derives and tactics promise nothing; an attribute may be broken over lines
         name == "" && (/^ *#\[/ || attribute != "") {
             attribute = attribute " " $0
@@ -36,8 +44,8 @@ open_items() { # CRATE SOURCE MODULE
             attribute = ""
             next
         }
-        name == "" && (/^ghost use / || /^ *pub (extern "C" )?(fn|struct|enum|const|mod|trait|type|use) / || attributes ~ /no_mangle/) {
-            name = /^ghost use / ? "names" : begun($0)
+        name == "" && (/^ *ghost use / || /^ +ghost [A-Za-z_]+ = / || /^ *pub (extern "C" )?(fn|struct|enum|const|mod|trait|type|use) / || attributes ~ /no_mangle/) {
+            name = /^ *ghost use / ? "names" : begun($0)
             calls = / fn /
             clauses = 0
             part[0] = attributes

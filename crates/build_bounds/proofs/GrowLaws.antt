@@ -27,7 +27,7 @@ use Rattle.build_rules.proofs.WidthLaws.{count_small, value_near}
 use Rattle.build_bounds.specs.declared.Over.TheVariants.{Length, Count}
 use Rattle.build_bounds.specs.declared.Bounds.{Bounds}
 use Rattle.build_bounds.specs.declared.Point.{Point}
-use Rattle.build_bounds.specs.Private.Growing.{HeavySeen, range_top, range_bottom, point, BoundsSeen, FitsTo, ThresholdSmall, passes}
+use Rattle.build_bounds.specs.Private.Growing.{HeavySeen, range_top, range_bottom, point, BoundsSeen, FitsTo, passes}
 use Rattle.build_bounds.proofs.RangeLaws.{heavy_some}
 
 -- the count between two points
@@ -205,6 +205,3 @@ module _ (q : Quality) (fs : List ℕ) (a : ℕ) (sound : Sound fs q) where
   -- the same where it has been reached up to a smaller limit
   pub width_early : (few most : ℕ) (p : Point) → few ≤ most → p.at < few → FitsTo q fs a few p → (p.at < few → fits_at q fs a (suc p.at) ≡ false) → p.at ≡ width q fs a most
   width_early few most p h l f n = width_is most p (fits_wider few most p h f) (λ _. n l)
-
-  pub threshold_is_small : ThresholdSmall q
-  threshold_is_small = record { theta_small = sound.theta_small; qd_small = sound.qd_small; qn_some = omega (arith, factor, sound.qd_some) }

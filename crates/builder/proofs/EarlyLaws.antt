@@ -1,13 +1,15 @@
 -- What a function answers where it returns early, as laws that the prover finds by the goal: such a goal is named after its test, which may be written otherwise.
 -- Assumes nothing.
-use mathlib.Core.Path.{◌≡◌, sym}
+use mathlib.Core.Path.{◌≡◌, sym, ◌∙◌}
 use mathlib.Core.List.{List}
 use Prim.Native.Nat.{ℕ, ◌-◌, ◌≤◌, ◌<◌}
 use native.Mathlib.Omega.{arith}
 use lib.ListN.{length}
 use Rattle.laws.specs.Refusal.{refusal}
 use Rattle.laws.specs.Reply.{refused}
-use Rattle.laws.proofs.ReplyLaws.{refused_case}
+use Rattle.refusals.specs.declared.Refusal.{Refusal}
+use Rattle.refusals.specs.Numbers.{number_of}
+use Rattle.refusals.proofs.NumberLaws.{numbered}
 use Rattle.list_rules.specs.declared.Quality.{Quality}
 use Rattle.list_rules.specs.Quality.{input_sentences, quality}
 use Rattle.list_rules.specs.Private.Sound.{Sound}
@@ -22,9 +24,6 @@ use Rattle.build_bounds.specs.declared.Point.{Point}
 use Rattle.build_bounds.specs.Private.Growing.{Ending, Advanced, Widened, Reached}
 use Rattle.build_bounds.proofs.BoundLaws.{stays}
 use Rattle.build_bounds.proofs.GrowLaws.{width_early}
-use Rattle.builder.specs.declared.Built.TheVariants.{Refused}
-use Rattle.builder.specs.declared.Built.TheVariants.{Words}
-use Rattle.builder.specs.Built.{built_of}
 
 -- no start is heavy
 pub none_heavy : (b : Bound) (fs : List ℕ) (a : ℕ) (k : Kept) (end : Point) → Ending fs a end → Advanced b fs a k end → k.light.at < 1 → Widened b fs a end.at k
@@ -43,21 +42,15 @@ module _ (fs : List ℕ) (theta qn qd : ℕ) where
   fault = refusal (input_sentences fs theta qn qd)
 
   -- the input is refused
-  pub refused_input : (old : List ℕ) → (fault ≡ 0 → ⊥) → build_reply fs theta qn qd (length old) ≡ refused fault
-  refused_input old z = sym (refused_by fs theta qn qd old fault (input_fault fs theta qn qd old z) z).0
+  pub refused_input : (old : List ℕ) (e : Refusal) → number_of e ≡ fault → build_reply fs theta qn qd (length old) ≡ refused (number_of e)
+  refused_input old e d = let n = numbered e in sym (refused_by fs theta qn qd old (number_of e) (d ∙ input_fault fs theta qn qd old (λ z. omega arith)) (λ z. omega arith)).0
 
-  pub refused_input_case : (old : List ℕ) → (fault ≡ 0 → ⊥) → built_of (build_reply fs theta qn qd (length old)) ≡ Refused fault
-  refused_input_case old z = sym (refused_case Words Refused fault _ z (sym (refused_input old z))).1
-
-  pub refused_input_written : (old : List ℕ) → (fault ≡ 0 → ⊥) → written fs theta qn qd old ≡ old
-  refused_input_written old z = sym (refused_by fs theta qn qd old fault (input_fault fs theta qn qd old z) z).1
+  pub refused_input_written : (old : List ℕ) (e : Refusal) → number_of e ≡ fault → written fs theta qn qd old ≡ old
+  refused_input_written old e d = let n = numbered e in sym (refused_by fs theta qn qd old (number_of e) (d ∙ input_fault fs theta qn qd old (λ z. omega arith)) (λ z. omega arith)).1
 
   -- too few words are lent
   pub short_list : (old : List ℕ) → fault ≡ 0 → length old < length (words (quality theta qn qd) fs) → build_reply fs theta qn qd (length old) ≡ refused 6
   short_list old e l = sym (refused_by fs theta qn qd old 6 (short_fault_lem fs theta qn qd old e l) (λ z. omega arith)).0
-
-  pub short_list_case : (old : List ℕ) → fault ≡ 0 → length old < length (words (quality theta qn qd) fs) → built_of (build_reply fs theta qn qd (length old)) ≡ Refused 6
-  short_list_case old e l = sym (refused_case Words Refused 6 _ (λ z. omega arith) (sym (short_list old e l))).1
 
   pub short_list_written : (old : List ℕ) → fault ≡ 0 → length old < length (words (quality theta qn qd) fs) → written fs theta qn qd old ≡ old
   short_list_written old e l = sym (refused_by fs theta qn qd old 6 (short_fault_lem fs theta qn qd old e l) (λ z. omega arith)).1

@@ -6,7 +6,7 @@ use Prim.Native.Nat.{ℕ, suc, ◌+◌, ◌-◌, ◌*◌, ◌≤◌, ◌<◌}
 use native.Mathlib.Nat.{zero-add}
 use native.Mathlib.Omega.{arith}
 use lib.ListN.{length, take, drop, length-append, length-take, take-append-drop}
-use lib.Seq.{sets, sets-eq, take_at, drop_at, drop-drop}
+use lib.Seq.{take_at, drop_at, drop-drop}
 use Rattle.laws.specs.Sums.{sum}
 use Rattle.words_rules.specs.declared.Bucket.{Bucket}
 use Rattle.words_rules.specs.Words.{head_words, bucket_words, encode_head}
@@ -14,7 +14,7 @@ use Rattle.words_rules.specs.Decoded.{encode}
 use Rattle.list_rules.specs.declared.Quality.{Quality}
 use Rattle.list_rules.specs.Private.Sound.{Sound}
 use Rattle.build_rules.specs.Bucket.{bucket_widths, bucket_from}
-use Rattle.build_rules.specs.Words.{buckets_from, stretch, bucket_words_of, head_with, words, max_words}
+use Rattle.build_rules.specs.Words.{buckets_from, stretch, bucket_words_of, head_with, words}
 use Rattle.build_rules.proofs.BucketLaws.{sum_within, sum_eight}
 use Rattle.build_rules.proofs.WordsLaws.{encode_length, words_length, buckets_more, buckets_done}
 use Rattle.builder.specs.Private.Filling.{max_buckets, Bodied, Whole}
@@ -70,9 +70,6 @@ module _ (fs : List ℕ) (q : Quality) (old : List ℕ) where
         ap (λ (n : ℕ). buckets_from n q fs (length fs) start) {x = length fs - b} {y = suc (length fs - suc b)} (omega (arith, f.ahead more))
         ∙ buckets_more q fs (length fs) (length fs - suc b) start more
 
-    pub room : max_words ≤ length old → length new ≡ length old → head_words + bucket_words * b + bucket_words ≤ length new
-    room h e = omega (arith, f.ahead more, sound.many)
-
     pub filling_more : head_words ≤ length old → (o : List ℕ) → o ≡ take (head_words + bucket_words * b) new ++ encode (bucket_from q fs (length fs) start) ++ drop (head_words + bucket_words * b + bucket_words) new
         → Filling o (suc b) (start + sum (bucket_widths q fs (length fs) start))
     unfolding bucket_words_of
@@ -105,7 +102,7 @@ module _ (fs : List ℕ) (q : Quality) (old : List ℕ) where
 -- ---- the head words before the buckets
 
 pub whole : (fs : List ℕ) (q : Quality) (old new o : List ℕ) (b n : ℕ) → head_words ≤ length old → length new ≡ length old
-    → o ≡ sets new 0 (encode_head (head_with q (length fs) b)) → n ≡ head_words + bucket_words * b → Bodied fs q old new b → Whole fs q o n
+    → o ≡ encode_head (head_with q (length fs) b) ++ drop head_words new → n ≡ head_words + bucket_words * b → Bodied fs q old new b → Whole fs q o n
 unfolding words
 whole fs q old new o b n h e w m r =
     let rs = stretch q fs (length fs) 0 in
@@ -114,7 +111,7 @@ whole fs q old new o b n h e w m r =
     let head = encode_head (head_with q (length fs) b) in
     let front : length (take head_words old) ≡ head_words = length-take head_words old ∙ (omega arith) in
     let tail : drop head_words new ≡ body ++ rest = ap (drop head_words) (r.body ∙ append_assoc (take head_words old) body rest) ∙ drop_at (take head_words old) (body ++ rest) head_words front in
-    let all : o ≡ head ++ (body ++ rest) = w ∙ sets-eq head new 0 (omega arith) ∙ ap (λ (x : List ℕ). head ++ x) tail in
+    let all : o ≡ head ++ (body ++ rest) = w ∙ ap (λ (x : List ℕ). head ++ x) tail in
     let same : head ++ body ≡ words q fs = ap (λ (x : ℕ). encode_head (head_with q (length fs) x) ++ body) r.count in
     let size : length (head ++ body) ≡ n = length-append head body ∙ (let s = words_length rs in let c = r.count in omega arith) in
     record {

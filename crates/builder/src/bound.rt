@@ -2,33 +2,13 @@
 // than its start exactly if the range exceeds it. So where the lowest heavy start is no lower than the end, no heavy range with that end exceeds it, and
 // nothing is searched: the end has cost one comparison, and each start becomes heavy once.
 
-ghost use Rattle.std.specs.Prelude.{◌≡◌, suc, ◌-◌, ◌≤◌, ◌<◌};
-ghost use Rattle.build_bounds.specs.Private.Growing.{point, Movable, Between, fraction_of, Small, above, greater, lower_of, Startable, start_of, Advancing, Advanced, Searchable, Found, Widenable, Widened};
+ghost use Rattle.std.specs.Prelude.{◌≡◌, ◌≤◌};
+ghost use Rattle.build_bounds.specs.Private.Growing.{Between, fraction_of, Small, above, greater, lower_of, Startable, start_of, Advancing, Advanced, Searchable, Found, Widenable, Widened};
 
+use super::bucketlet::Bucketlet;
 use build_bounds::{Bound, Kept, Over, Point, Ratio};
 
-// The point one entry later.
-pub(crate) fn one_later(freqs: &[u32], a: usize, p: Point) -> Point
-    requires { Movable freqs.now a (suc p.at) p }
-    ensures { result ≡ point freqs.now a (suc p.at) }
-{
-    Point {
-        at: p.at + 1,
-        count: p.count + arithmetic::wide(freqs[a + p.at]),
-    }
-}
-
-// The point one entry earlier.
-fn one_earlier(freqs: &[u32], a: usize, p: Point) -> Point
-    requires { Movable freqs.now a p.at p × (0 < p.at) }
-    ensures { result ≡ point freqs.now a (p.at - 1) }
-{
-    let at = p.at - 1;
-    Point {
-        at,
-        count: p.count - arithmetic::wide(freqs[a + at]),
-    }
-}
+// What follows of ratios, no method: an open method of the crate of the laws, where their type stands, may not ask that the numbers are small.
 
 // The fraction of the range between two points.
 fn fraction(over: Over, start: Point, end: Point) -> Ratio
@@ -90,80 +70,74 @@ fn start_of(over: Over, f: Ratio, end: Point) -> Point
     }
 }
 
-// The lowest start and the first light one for the next end.
-fn advanced(freqs: &[u32], a: usize, b: Bound, known: Kept, end: Point) -> Kept
-    requires { Advancing b freqs.now a known end }
-    ensures { Advanced b freqs.now a result end }
-{
-    let over = b.over;
-    let greatest = known.greatest;
-    let mut lowest = known.lowest;
-    let mut light = known.light;
-    while b.threshold < end.count - light.count {
-        lowest = lower_of(over, greatest, lowest, light);
-        light = one_later(freqs, a, light);
-    }
-    Kept {
-        greatest,
-        lowest,
-        light,
-    }
-}
-
-// The greatest fraction with the ranges to an end. The starts are tried from the last heavy one down, until the range from a start to that last one is
-// heavy. Then the range to the end splits there into two heavy ones, of which the first has an earlier end and the second has been tried, and its
-// fraction is at most the greater of theirs. Every start before it splits at the same place.
-fn greatest_found(freqs: &[u32], a: usize, b: Bound, known: Kept, end: Point) -> Ratio
-    requires { Searchable b freqs.now a known end }
-    ensures { Found b freqs.now a known end result }
-{
-    let over = b.over;
-    let light = known.light;
-    let last = one_earlier(freqs, a, light);
-    let mut greatest = known.greatest;
-    let mut start = light;
-    while 0 < start.at {
-        start = one_earlier(freqs, a, start);
-        if b.threshold < last.count - start.count {
-            break;
+impl Bucketlet<'_> {
+    // The lowest start and the first light one for the next end.
+    fn advanced(&self, b: Bound, known: Kept, end: Point) -> Kept
+        requires { Advancing b self.now.freqs.now self.now.first known end }
+        ensures { Advanced b self.now.freqs.now self.now.first result end }
+    {
+        let mut lowest = known.lowest;
+        let mut light = known.light;
+        // No `for`: the point goes on with its count, until no range from it is heavy.
+        while b.threshold < end.count - light.count {
+            lowest = lower_of(b.over, known.greatest, lowest, light);
+            light = self.one_later(light);
         }
-        greatest = greater_of(greatest, fraction(over, start, end));
+        Kept {
+            lowest,
+            light,
+            ..known
+        }
     }
-    greatest
-}
 
-// What is kept where a range to the end exceeds the greatest fraction. The start of the range with the new one is as high as the end above the new line,
-// and no heavy start is lower: its range would have a greater fraction still.
-fn searched(freqs: &[u32], a: usize, b: Bound, known: Kept, end: Point) -> Kept
-    requires { Searchable b freqs.now a known end }
-    ensures { Widened b freqs.now a end.at result }
-{
-    let over = b.over;
-    let light = known.light;
-    let greatest = greatest_found(freqs, a, b, known, end);
-    let start = start_of(over, greatest, end);
-    Kept {
-        greatest,
-        lowest: start,
-        light,
+    // The greatest fraction with the ranges to an end. The starts are tried from the last heavy one down, until the range from a start to that last one is
+    // heavy. Then the range to the end splits there into two heavy ones, of which the first has an earlier end and the second has been tried, and its
+    // fraction is at most the greater of theirs. Every start before it splits at the same place.
+    fn greatest_found(&self, b: Bound, known: Kept, end: Point) -> Ratio
+        requires { Searchable b self.now.freqs.now self.now.first known end }
+        ensures { Found b self.now.freqs.now self.now.first known end result }
+    {
+        let last = self.one_earlier(known.light);
+        let mut greatest = known.greatest;
+        let mut start = known.light;
+        // No `for`: the point steps back with its count.
+        while 0 < start.at {
+            start = self.one_earlier(start);
+            if b.threshold < last.count - start.count {
+                break;
+            }
+            greatest = greater_of(greatest, fraction(b.over, start, end));
+        }
+        greatest
     }
-}
 
-// What is kept with the ranges to the next end.
-#[tactic(auto, using(crate::proofs::EarlyLaws::none_heavy))]
-pub(crate) fn widened(freqs: &[u32], a: usize, b: Bound, known: Kept, end: Point) -> Kept
-    requires { Widenable b freqs.now a known end }
-    ensures { Widened b freqs.now a end.at result }
-{
-    let ready = advanced(freqs, a, b, known, end);
-    if ready.light.at == 0 {
-        return ready;
+    // What is kept where a range to the end exceeds the greatest fraction. The start of the range with the new one is as high as the end above the new line,
+    // and no heavy start is lower: its range would have a greater fraction still.
+    fn searched(&self, b: Bound, known: Kept, end: Point) -> Kept
+        requires { Searchable b self.now.freqs.now self.now.first known end }
+        ensures { Widened b self.now.freqs.now self.now.first end.at result }
+    {
+        let greatest = self.greatest_found(b, known, end);
+        Kept {
+            greatest,
+            lowest: start_of(b.over, greatest, end),
+            light: known.light,
+        }
     }
-    let over = b.over;
-    let greatest = ready.greatest;
-    let lowest = ready.lowest;
-    if is_above(fraction(over, lowest, end), greatest) {
-        return searched(freqs, a, b, ready, end);
+
+    // What is kept with the ranges to the next end.
+    #[tactic(auto, using(crate::proofs::EarlyLaws::none_heavy))]
+    pub(crate) fn widened(&self, b: Bound, known: Kept, end: Point) -> Kept
+        requires { Widenable b self.now.freqs.now self.now.first known end }
+        ensures { Widened b self.now.freqs.now self.now.first end.at result }
+    {
+        let ready = self.advanced(b, known, end);
+        if ready.light.at == 0 {
+            return ready;
+        }
+        if is_above(fraction(b.over, ready.lowest, end), ready.greatest) {
+            return self.searched(b, ready, end);
+        }
+        ready
     }
-    ready
 }

@@ -1,148 +1,129 @@
 // Counts and their codes, and numbers that are neither.
 
-use super::print::{write, write_number, write_verdict};
-use super::reply::{Reply, answer, refusal};
-use counts::{Coded, Meaning};
+use super::report::verdict;
+use refusals::Refusal;
 use std::io::Stdout;
+use std::{fmt, io};
 
-fn coded(c: Coded) -> Reply {
-    match c {
-        Coded::Code(value) => answer(value as u64),
-        Coded::Refused => refusal(16),
+// A number, or the number of a refusal.
+#[derive(Clone, Copy, PartialEq)]
+struct Answer(Result<u32, Refusal>);
+
+impl fmt::Display for Answer {
+    fn fmt<W: fmt::Write>(&self, f: &mut fmt::Formatter<W>) -> fmt::Result {
+        match self.0 {
+            Ok(number) => write!(f, "{number}"),
+            Err(refusal) => write!(f, "refused {}", refusal.number()),
+        }
     }
 }
 
-fn meant(m: Meaning) -> Reply {
-    match m {
-        Meaning::Number(value) => answer(value as u64),
-        Meaning::Refused => refusal(17),
+fn calls<F: Fn(u32) -> Result<u32, Refusal>>(
+    out: &Stdout,
+    what: &str,
+    call: F,
+    cases: &[(u32, Result<u32, Refusal>)],
+) -> io::Result<()>
+    requires { F.IsAlwaysCallable call }
+{
+    for &(input, expected) in cases {
+        let came = Answer(call(input));
+        let expected = Answer(expected);
+        let said = verdict(expected == came);
+        println!(out; "{what} {input}: expected {expected}, came {came}, {said}")?;
     }
+    Ok(())
 }
 
-fn write_reply(out: &Stdout, r: Reply) {
-    if r.refusal == 0 {
-        write_number(out, r.value);
-    } else {
-        write(out, b"refused ");
-        write_number(out, r.refusal as u64);
-    }
-}
-
-fn report_call(out: &Stdout, call: &[u8], input: u32, expected: Reply, came: Reply) {
-    write(out, call);
-    write(out, b" ");
-    write_number(out, input as u64);
-    write(out, b": expected ");
-    write_reply(out, expected);
-    write(out, b", came ");
-    write_reply(out, came);
-    write_verdict(
+fn classes(out: &Stdout) -> io::Result<()> {
+    calls(
         out,
-        expected.refusal == came.refusal && expected.value == came.value,
-    );
+        "class of",
+        counts::class_of,
+        &[
+            (0, Ok(0)),
+            (1, Ok(1)),
+            (2, Ok(3)),
+            (5, Ok(5)),
+            (10, Ok(7)),
+            (11, Ok(8)),
+            (100, Ok(14)),
+            (819993059, Ok(61)),
+            (819993060, Ok(62)),
+            (1073741823, Ok(62)),
+            (1073741824, Err(Refusal::Count)),
+            (4294967295, Err(Refusal::Count)),
+        ],
+    )
 }
 
-fn class_case(out: &Stdout, count: u32, expected: Reply) {
-    report_call(
+fn numbers(out: &Stdout) -> io::Result<()> {
+    calls(
         out,
-        b"class of",
-        count,
-        expected,
-        coded(counts::class_of(count)),
-    );
+        "number of class",
+        counts::number_of_class,
+        &[
+            (0, Ok(0)),
+            (1, Ok(1)),
+            (2, Err(Refusal::Reading)),
+            (3, Ok(2)),
+            (5, Ok(4)),
+            (7, Ok(8)),
+            (8, Ok(12)),
+            (11, Ok(34)),
+            (14, Ok(93)),
+            (62, Ok(970228872)),
+            (63, Err(Refusal::Reading)),
+            (64, Err(Refusal::Reading)),
+            (4294967295, Err(Refusal::Reading)),
+        ],
+    )
 }
 
-fn number_case(out: &Stdout, class: u32, expected: Reply) {
-    report_call(
+fn codes(out: &Stdout) -> io::Result<()> {
+    calls(
         out,
-        b"number of class",
-        class,
-        expected,
-        meant(counts::number_of_class(class)),
-    );
+        "code of total",
+        counts::code_of_total,
+        &[
+            (0, Ok(0)),
+            (1, Ok(32)),
+            (127, Ok(4064)),
+            (128, Ok(2049)),
+            (1000, Ok(4003)),
+            (1073741823, Ok(4087)),
+            (1073741824, Err(Refusal::Count)),
+            (4294967295, Err(Refusal::Count)),
+        ],
+    )
 }
 
-fn code_case(out: &Stdout, total: u32, expected: Reply) {
-    report_call(
+fn totals(out: &Stdout) -> io::Result<()> {
+    calls(
         out,
-        b"code of total",
-        total,
-        expected,
-        coded(counts::code_of_total(total)),
-    );
+        "number of code",
+        counts::number_of_total,
+        &[
+            (0, Ok(0)),
+            (31, Err(Refusal::Reading)),
+            (32, Ok(1)),
+            (33, Err(Refusal::Reading)),
+            (2017, Err(Refusal::Reading)),
+            (2049, Ok(128)),
+            (2072, Err(Refusal::Reading)),
+            (4003, Ok(1003)),
+            (4064, Ok(127)),
+            (4087, Ok(1068827891)),
+            (4096, Err(Refusal::Reading)),
+            (4128, Err(Refusal::Reading)),
+            (4294967295, Err(Refusal::Reading)),
+        ],
+    )
 }
 
-fn total_case(out: &Stdout, code: u32, expected: Reply) {
-    report_call(
-        out,
-        b"number of code",
-        code,
-        expected,
-        meant(counts::number_of_total(code)),
-    );
-}
-
-fn classes(out: &Stdout) {
-    class_case(out, 0, answer(0));
-    class_case(out, 1, answer(1));
-    class_case(out, 2, answer(3));
-    class_case(out, 5, answer(5));
-    class_case(out, 10, answer(7));
-    class_case(out, 11, answer(8));
-    class_case(out, 100, answer(14));
-    class_case(out, 819993059, answer(61));
-    class_case(out, 819993060, answer(62));
-    class_case(out, 1073741823, answer(62));
-    class_case(out, 1073741824, refusal(16));
-    class_case(out, 4294967295, refusal(16));
-}
-
-fn numbers(out: &Stdout) {
-    number_case(out, 0, answer(0));
-    number_case(out, 1, answer(1));
-    number_case(out, 2, refusal(17));
-    number_case(out, 3, answer(2));
-    number_case(out, 5, answer(4));
-    number_case(out, 7, answer(8));
-    number_case(out, 8, answer(12));
-    number_case(out, 11, answer(34));
-    number_case(out, 14, answer(93));
-    number_case(out, 62, answer(970228872));
-    number_case(out, 63, refusal(17));
-    number_case(out, 64, refusal(17));
-    number_case(out, 4294967295, refusal(17));
-}
-
-fn codes(out: &Stdout) {
-    code_case(out, 0, answer(0));
-    code_case(out, 1, answer(32));
-    code_case(out, 127, answer(4064));
-    code_case(out, 128, answer(2049));
-    code_case(out, 1000, answer(4003));
-    code_case(out, 1073741823, answer(4087));
-    code_case(out, 1073741824, refusal(16));
-    code_case(out, 4294967295, refusal(16));
-}
-
-fn totals(out: &Stdout) {
-    total_case(out, 0, answer(0));
-    total_case(out, 31, refusal(17));
-    total_case(out, 32, answer(1));
-    total_case(out, 33, refusal(17));
-    total_case(out, 2017, refusal(17));
-    total_case(out, 2049, answer(128));
-    total_case(out, 2072, refusal(17));
-    total_case(out, 4003, answer(1003));
-    total_case(out, 4064, answer(127));
-    total_case(out, 4087, answer(1068827891));
-    total_case(out, 4096, refusal(17));
-    total_case(out, 4128, refusal(17));
-    total_case(out, 4294967295, refusal(17));
-}
-
-pub(crate) fn run(out: &Stdout) {
-    classes(out);
-    numbers(out);
-    codes(out);
-    totals(out);
+pub(crate) fn run(out: &Stdout) -> io::Result<()> {
+    classes(out)?;
+    numbers(out)?;
+    codes(out)?;
+    totals(out)
 }

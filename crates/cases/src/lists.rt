@@ -23,46 +23,22 @@ pub(crate) const TWO_WORDS: [u32; TWO_BUCKETS] = [
     0x881C0180, 0x80000801, 0xC0000200, 0xC0000000,
 ];
 
-fn change(words: &mut [u32], at: usize, word: u32) {
-    if at < words.len() {
-        words[at] = word;
+// Words, one of them changed.
+pub(crate) fn with<const N: usize>(mut words: [u32; N], at: usize, word: u32) -> [u32; N] {
+    if let Some(old) = words.get_mut(at) {
+        *old = word;
     }
-}
-
-pub(crate) fn tens_with(at: usize, word: u32) -> [u32; ONE_BUCKET] {
-    let mut words = TENS_WORDS;
-    change(&mut words, at, word);
     words
 }
 
-pub(crate) fn zeros_with(at: usize, word: u32) -> [u32; ONE_BUCKET] {
-    let mut words = ZEROS_WORDS;
-    change(&mut words, at, word);
-    words
-}
-
-// With another theta and another total.
+// Three zeros with another theta and another total.
 pub(crate) fn zeros_under(theta: u32, total: u32) -> [u32; ONE_BUCKET] {
-    let mut words = zeros_with(6, total);
-    change(&mut words, 1, theta);
-    words
-}
-
-pub(crate) fn two_with(at: usize, word: u32) -> [u32; TWO_BUCKETS] {
-    let mut words = TWO_WORDS;
-    change(&mut words, at, word);
-    words
+    with(with(ZEROS_WORDS, 6, total), 1, theta)
 }
 
 // Two buckets, of which the first has class 63.
 pub(crate) fn bad_class() -> [u32; TWO_BUCKETS] {
-    two_with(5, 0xBF0C4140)
-}
-
-pub(crate) fn bad_class_with(at: usize, word: u32) -> [u32; TWO_BUCKETS] {
-    let mut words = bad_class();
-    change(&mut words, at, word);
-    words
+    with(TWO_WORDS, 5, 0xBF0C4140)
 }
 
 // A bucket of 4,095 or 4,096 entries in its free bucketlet, and one of one entry.

@@ -1,75 +1,102 @@
 // Searches of several ranges, nearly all in four tens.
 
-use super::estimate_cases::given;
-use super::lists::{TENS_WORDS, TWO_WORDS, tens_with};
-use super::reply::{Reply, answer, refusal, report_reply};
+use super::lists::{TENS_WORDS, TWO_WORDS, with};
+use super::report::report_reply;
+use refusals::Refusal;
+use std::io;
 use std::io::Stdout;
 
-fn search(out: &Stdout, what: &[u8], words: &[u32], ranges: &[u32], expected: Reply) {
-    let got = given(estimator::estimate_search(words, ranges));
-    report_reply(out, what, b"  estimate", expected, got);
+fn search(out: &Stdout, cases: &[(&str, &[u32], &[u32], Result<u64, Refusal>)]) -> io::Result<()> {
+    for &(what, words, ranges, expected) in cases {
+        let got = estimator::estimate_search(words, ranges);
+        report_reply(out, what, "  estimate", expected, got)?;
+    }
+    Ok(())
 }
 
-fn ask(out: &Stdout, what: &[u8], ranges: &[u32], expected: Reply) {
-    search(out, what, &TENS_WORDS, ranges, expected);
+fn ask(out: &Stdout, cases: &[(&str, &[u32], Result<u64, Refusal>)]) -> io::Result<()> {
+    for &(what, ranges, expected) in cases {
+        search(out, &[(what, &TENS_WORDS, ranges, expected)])?;
+    }
+    Ok(())
 }
 
 // As the single call answers.
-fn one_range(out: &Stdout) {
-    ask(out, b"a search of 1 to 3", &[1, 3], answer(17));
-    ask(out, b"0 to 4", &[0, 4], answer(40));
-    ask(out, b"2 to 2", &[2, 2], answer(0));
+fn one_range(out: &Stdout) -> io::Result<()> {
+    ask(
+        out,
+        &[
+            ("a search of 1 to 3", &[1, 3], Ok(17)),
+            ("0 to 4", &[0, 4], Ok(40)),
+            ("2 to 2", &[2, 2], Ok(0)),
+        ],
+    )
 }
 
-fn several(out: &Stdout) {
-    ask(out, b"0 to 2 and 2 to 4", &[0, 2, 2, 4], answer(34));
+fn several(out: &Stdout) -> io::Result<()> {
     ask(
         out,
-        b"0 to 1, 1 to 2 and 3 to 4, each 17/2 rounded up",
-        &[0, 1, 1, 2, 3, 4],
-        answer(27),
-    );
-    ask(
-        out,
-        b"three empty ranges and one that isn't",
-        &[0, 0, 0, 3, 3, 3, 4, 4],
-        answer(26),
-    );
+        &[
+            ("0 to 2 and 2 to 4", &[0, 2, 2, 4], Ok(34)),
+            (
+                "0 to 1, 1 to 2 and 3 to 4, each 17/2 rounded up",
+                &[0, 1, 1, 2, 3, 4],
+                Ok(27),
+            ),
+            (
+                "three empty ranges and one that isn't",
+                &[0, 0, 0, 3, 3, 3, 4, 4],
+                Ok(26),
+            ),
+        ],
+    )
 }
 
 // 14 is said of each range, and first.
-fn outside(out: &Stdout) {
-    ask(out, b"0 to 5 and a word", &[0, 5, 7], refusal(14));
-    ask(out, b"3 to 2 and 2 to 4", &[3, 2, 2, 4], refusal(14));
+fn outside(out: &Stdout) -> io::Result<()> {
     ask(
         out,
-        b"0 to 3, 2 to 5 and a word",
-        &[0, 3, 2, 5, 7],
-        refusal(14),
-    );
+        &[
+            ("0 to 5 and a word", &[0, 5, 7], Err(Refusal::Range)),
+            ("3 to 2 and 2 to 4", &[3, 2, 2, 4], Err(Refusal::Range)),
+            (
+                "0 to 3, 2 to 5 and a word",
+                &[0, 3, 2, 5, 7],
+                Err(Refusal::Range),
+            ),
+        ],
+    )
 }
 
-fn numbers(out: &Stdout) {
-    ask(out, b"no range", &[], refusal(22));
-    ask(out, b"a word", &[5], refusal(22));
+fn numbers(out: &Stdout) -> io::Result<()> {
     ask(
         out,
-        b"0 to 3, 2 to 4 and a word",
-        &[0, 3, 2, 4, 7],
-        refusal(22),
-    );
+        &[
+            ("no range", &[], Err(Refusal::RangeCount)),
+            ("a word", &[5], Err(Refusal::RangeCount)),
+            (
+                "0 to 3, 2 to 4 and a word",
+                &[0, 3, 2, 4, 7],
+                Err(Refusal::RangeCount),
+            ),
+        ],
+    )
 }
 
-fn orders(out: &Stdout) {
-    ask(out, b"0 to 3 and 2 to 4", &[0, 3, 2, 4], refusal(23));
-    ask(out, b"3 to 3 and 2 to 4", &[3, 3, 2, 4], refusal(23));
-    ask(out, b"0 to 4 and 2 to 2", &[0, 4, 2, 2], refusal(23));
+fn orders(out: &Stdout) -> io::Result<()> {
     ask(
         out,
-        b"0 to 1, 2 to 4 and 3 to 4",
-        &[0, 1, 2, 4, 3, 4],
-        refusal(23),
-    );
+        &[
+            ("0 to 3 and 2 to 4", &[0, 3, 2, 4], Err(Refusal::RangeOrder)),
+            ("3 to 3 and 2 to 4", &[3, 3, 2, 4], Err(Refusal::RangeOrder)),
+            ("0 to 4 and 2 to 2", &[0, 4, 2, 2], Err(Refusal::RangeOrder)),
+            (
+                "0 to 1, 2 to 4 and 3 to 4",
+                &[0, 1, 2, 4, 3, 4],
+                Err(Refusal::RangeOrder),
+            ),
+        ],
+    )
 }
 
 // 0 to 4, and then empty ranges.
@@ -86,54 +113,67 @@ fn broken_last() -> [u32; 34] {
     ranges
 }
 
-fn sixteen(out: &Stdout) {
-    ask(out, b"sixteen ranges", &sixteen_ranges(), answer(40));
-    ask(out, b"sixteen ranges and a word", &[4; 33], refusal(22));
-    ask(out, b"seventeen ranges", &[4; 34], refusal(22));
+fn sixteen(out: &Stdout) -> io::Result<()> {
     ask(
         out,
-        b"seventeen ranges, the last from 4 to 5",
-        &broken_last(),
-        refusal(14),
-    );
+        &[
+            ("sixteen ranges", &sixteen_ranges(), Ok(40)),
+            (
+                "sixteen ranges and a word",
+                &[4; 33],
+                Err(Refusal::RangeCount),
+            ),
+            ("seventeen ranges", &[4; 34], Err(Refusal::RangeCount)),
+            (
+                "seventeen ranges, the last from 4 to 5",
+                &broken_last(),
+                Err(Refusal::Range),
+            ),
+        ],
+    )
 }
 
 // The words are looked at first.
-fn words_first(out: &Stdout) {
-    search(out, b"no word and no range", &[], &[], refusal(7));
+fn words_first(out: &Stdout) -> io::Result<()> {
     search(
         out,
-        b"q 9/1 and no range",
-        &tens_with(2, 9 * 1024 + 1),
-        &[],
-        refusal(24),
-    );
-    search(
-        out,
-        b"class 63 and no range",
-        &tens_with(5, 0xBF000000),
-        &[],
-        refusal(12),
-    );
+        &[
+            ("no word and no range", &[], &[], Err(Refusal::Head)),
+            (
+                "q 9/1 and no range",
+                &with(TENS_WORDS, 2, 9 * 1024 + 1),
+                &[],
+                Err(Refusal::LargeQ),
+            ),
+            (
+                "class 63 and no range",
+                &with(TENS_WORDS, 5, 0xBF000000),
+                &[],
+                Err(Refusal::Code),
+            ),
+        ],
+    )
 }
 
-fn two_buckets(out: &Stdout) {
+fn two_buckets(out: &Stdout) -> io::Result<()> {
     search(
         out,
-        b"2 to 4, 4 to 7 and 7 to 10 of two buckets",
-        &TWO_WORDS,
-        &[2, 4, 4, 7, 7, 10],
-        answer(33),
-    );
+        &[(
+            "2 to 4, 4 to 7 and 7 to 10 of two buckets",
+            &TWO_WORDS,
+            &[2, 4, 4, 7, 7, 10],
+            Ok(33),
+        )],
+    )
 }
 
-pub(crate) fn run(out: &Stdout) {
-    one_range(out);
-    several(out);
-    outside(out);
-    numbers(out);
-    orders(out);
-    sixteen(out);
-    words_first(out);
-    two_buckets(out);
+pub(crate) fn run(out: &Stdout) -> io::Result<()> {
+    one_range(out)?;
+    several(out)?;
+    outside(out)?;
+    numbers(out)?;
+    orders(out)?;
+    sixteen(out)?;
+    words_first(out)?;
+    two_buckets(out)
 }

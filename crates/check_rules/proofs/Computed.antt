@@ -10,11 +10,11 @@ use Rattle.words_rules.specs.Reading.{head_good, head_fault, large_q_fault, leng
 use Rattle.list_rules.specs.Frequencies.{entries_fault, sum_fault}
 use Rattle.fit.specs.Accepted.{mismatch}
 use Rattle.check_rules.specs.Failing.{first_failing, range_verdict, start_verdict, bucketlet_verdict}
-use Rattle.check_rules.specs.Checking.{total_verdict, bucket_verdict, check_verdict}
+use Rattle.check_rules.specs.Checking.{total_verdict, bucket_verdict, buckets_verdict}
 use Rattle.check_rules.specs.Worked.{Worked}
 
 pub worked : Worked
-unfolding each some refusal first largest root class_number middle total_number valid_fields decode head_good head_fault large_q_fault length_fault words_broken word_fault start_fault widths_broken width_fault class_broken total_broken codes_broken code_fault entries_fault sum_fault mismatch first_failing range_verdict start_verdict bucketlet_verdict total_verdict bucket_verdict check_verdict
+unfolding each some refusal first largest root class_number middle total_number valid_fields decode head_good head_fault large_q_fault length_fault words_broken word_fault start_fault widths_broken width_fault class_broken total_broken codes_broken code_fault entries_fault sum_fault mismatch first_failing range_verdict start_verdict bucketlet_verdict total_verdict bucket_verdict buckets_verdict
 worked =
     record {
       tens_taken = refl;

@@ -1,26 +1,25 @@
 -- Laws of what fails first (specs/Failing.antt): nothing fails exactly if no answer on the way is against it, and else the answer is the first
--- that is. By induction on how many are left. Assumes nothing.
+-- that is. By induction on how many are left. And what an answer's reply says of it. Assumes nothing.
 use mathlib.Core.Path.{◌≡◌, refl, sym, ap, ◌∙◌}
-use mathlib.Core.Bool.{true, false}
+use mathlib.Core.Bool.{true, false, cond}
 use mathlib.Core.Logic.{⊎_elim}
 use Prim.Native.Nat.{ℕ, zero, suc, ◌+◌, ◌≤◌, ◌<◌}
 use native.Mathlib.Nat.{eq-or-lt_of_le}
 use native.Mathlib.Omega.{arith}
-use borrow.Author.Tests.{ne_eqb}
 use lib.Dec.{eqb}
+use Rattle.std.specs.Prelude.{Result, Ok, Err}
+use Rattle.refusals.specs.declared.Refusal.{Refusal}
+use Rattle.refusals.specs.Numbers.{number_of}
+use Rattle.refusals.proofs.NumberLaws.{numbered, same_number}
 use Rattle.check_rules.specs.declared.Sort.{Sort}
 use Rattle.check_rules.specs.declared.Sort.TheVariants.{Bucketlet, Part, Bucket}
 use Rattle.check_rules.specs.declared.Verdict.{Verdict}
-use Rattle.check_rules.specs.declared.Verdict.TheVariants.{Refused, Accepted, Fails}
-use Rattle.check_rules.specs.Reply.{sort_number, verdict_reply, sort_of_number, verdict_of}
+use Rattle.check_rules.specs.declared.Verdict.TheVariants.{Accepted, Fails}
+use Rattle.check_rules.specs.Reply.{Answer, sort_number, verdict_reply, refused_answer, answer_of}
 use Rattle.check_rules.specs.Failing.{or_next, first_failing}
 
--- an answer is the accepted one exactly if its reply says so
-pub reply_accepted : (v : Verdict) → v ≡ Accepted → (verdict_reply v).accepted ≡ true
-reply_accepted v e = ap (λ (u : Verdict). (verdict_reply u).accepted) e
-
+-- an answer is the accepted one if its reply says so
 pub accepted_reply : (v : Verdict) → (verdict_reply v).accepted ≡ true → v ≡ Accepted
-accepted_reply (Refused n) e = let z : ◌≡◌ {A = ℕ} 0 1 = cc in absurd (omega arith)
 accepted_reply Accepted e = refl
 accepted_reply (Fails f) e = let z : ◌≡◌ {A = ℕ} 0 1 = cc in absurd (omega arith)
 
@@ -29,47 +28,48 @@ pub next_accepted : (v next : Verdict) → v ≡ Accepted → or_next v next ≡
 next_accepted v next e = ap (λ (u : Verdict). or_next u next) e
 
 pub next_other : (v next : Verdict) → (v ≡ Accepted → ⊥) → or_next v next ≡ v
-next_other (Refused n) next h = refl
 next_other Accepted next h = absurd (h refl)
 next_other (Fails f) next h = refl
 
 pub accepted_left : (v next : Verdict) → or_next v next ≡ Accepted → v ≡ Accepted
-accepted_left (Refused n) next e = e
 accepted_left Accepted next e = refl
 accepted_left (Fails f) next e = e
 
 pub accepted_right : (v next : Verdict) → or_next v next ≡ Accepted → next ≡ Accepted
 accepted_right v next e = sym (next_accepted v next (accepted_left v next e)) ∙ e
 
--- an answer that is no refusal
-abbrev pub Unrefused : Verdict → Type 0
-Unrefused (Refused n) = ⊥
-Unrefused Accepted = Unit
-Unrefused (Fails f) = Unit
+-- ---- the answer of a reply
 
-pub unrefused_number : (v : Verdict) → Unrefused v → (verdict_reply v).refusal ≡ 0
-unrefused_number (Refused n) u = absurd u
-unrefused_number Accepted u = refl
-unrefused_number (Fails f) u = refl
+pub no_refusal : (v : Verdict) → (verdict_reply v).refusal ≡ 0
+no_refusal Accepted = refl
+no_refusal (Fails f) = refl
 
-sort_again : (s : Sort) → s ≡ sort_of_number (sort_number s)
+sort_of_number : ℕ → Sort
+sort_of_number n = cond (eqb n 1) Bucketlet (cond (eqb n 2) Part Bucket)
+
+sort_again : (s : Sort) → sort_of_number (sort_number s) ≡ s
+unfolding sort_of_number
 sort_again Bucketlet = refl
 sort_again Part = refl
 sort_again Bucket = refl
 
--- it is the case of its reply, and so is a refusal with a number
-pub unrefused_case : (v : Verdict) → Unrefused v → v ≡ verdict_of (verdict_reply v)
-unrefused_case (Refused n) u = absurd u
-unrefused_case Accepted u = refl
-unrefused_case (Fails f) u = ap (λ (s : Sort). Fails (record { start = f.start; end = f.end; sort = s })) (sort_again f.sort)
+same_sort : (s t : Sort) → sort_number s ≡ sort_number t → s ≡ t
+same_sort s t e = sym (sort_again s) ∙ ap sort_of_number e ∙ sort_again t
 
-pub refused_case : (n : ℕ) → (n ≡ 0 → ⊥) → Refused n ≡ verdict_of (verdict_reply (Refused n))
-refused_case n z = let t : eqb n 0 ≡ false = ne_eqb n 0 z in rw t
+same_verdict : (v u : Verdict) → verdict_reply v ≡ verdict_reply u → v ≡ u
+same_verdict Accepted u e = sym (accepted_reply u (sym (ap (λ (a : Answer). a.accepted) e)))
+same_verdict (Fails f) Accepted e = accepted_reply (Fails f) (ap (λ (a : Answer). a.accepted) e)
+same_verdict (Fails f) (Fails g) e =
+    let s = same_sort f.sort g.sort (ap (λ (a : Answer). a.sort) e) in
+    λ i. Fails (record { start = (e i).start; end = (e i).end; sort = s i })
 
-pub next_unrefused : (v next : Verdict) → Unrefused v → Unrefused next → Unrefused (or_next v next)
-next_unrefused (Refused n) next u w = u
-next_unrefused Accepted next u w = w
-next_unrefused (Fails f) next u w = u
+pub same_answer : (r s : Result Verdict Refusal) → answer_of r ≡ answer_of s → r ≡ s
+same_answer (Ok v) (Ok u) e = ap Ok (same_verdict v u e)
+same_answer (Ok v) (Err b) e = absurd (omega (arith, numbered b, no_refusal v, ap (λ (a : Answer). a.refusal) e))
+same_answer (Err a) (Ok u) e = absurd (omega (arith, numbered a, no_refusal u, ap (λ (a : Answer). a.refusal) e))
+same_answer (Err a) (Err b) e = ap Err (same_number a b (ap (λ (a : Answer). a.refusal) e))
+
+-- ---- the first on a way
 
 module _ (answer : ℕ → Verdict) where
   pub all_accepted : (n i : ℕ) → ((k : ℕ) → i ≤ k → k < i + n → answer k ≡ Accepted) → first_failing answer n i ≡ Accepted
@@ -97,8 +97,3 @@ module _ (answer : ℕ → Verdict) where
       (λ (d : i < k).
       next_accepted (answer i) _ (before i (omega arith) d) ∙ first_at n (suc i) k d (omega arith) (λ m h j. before m (omega arith) j) against)
       (eq-or-lt_of_le g)
-
-  pub first_unrefused : ((k : ℕ) → Unrefused (answer k)) → (n i : ℕ) → Unrefused (first_failing answer n i)
-  unfolding first_failing
-  first_unrefused h zero i = tt
-  first_unrefused h (suc n) i = next_unrefused (answer i) (first_failing answer n (suc i)) (h i) (first_unrefused h n (suc i))

@@ -13,18 +13,15 @@ use Rattle.check_rules.specs.declared.Sort.TheVariants.{Bucketlet, Part}
 use Rattle.check_rules.specs.declared.Failing.{Failing}
 use Rattle.check_rules.specs.declared.Verdict.TheVariants.{Fails}
 use Rattle.check_rules.specs.Reply.{Answer, sort_number, verdict_reply, failed_answer}
-use Rattle.check_rules.specs.Checking.{total_verdict, bucket_verdict, check_verdict, check_reply}
+use Rattle.check_rules.specs.Checking.{total_verdict, bucket_verdict, check_reply}
 use Rattle.check_rules.specs.Claims.{FirstRange, Reached, Checker}
-use Rattle.check_rules.proofs.FirstLaws.{reply_accepted, accepted_reply}
+use Rattle.check_rules.proofs.FirstLaws.{same_answer}
 use Rattle.check_rules.proofs.RangeLaws.{bad_fails, not_accepted, first_range}
-use Rattle.check_rules.proofs.CheckLaws.{good_bucketlet, total_decides, bucketlet_decides, bucket_decides, refused_verdict, accepted_verdict, verdict_accepted, verdict_refusal}
-
-only_then : (fs ws : List ℕ) → (check_reply fs ws).accepted ≡ true → accepted fs ws ≡ true
-only_then fs ws e = verdict_accepted fs ws (accepted_reply (check_verdict fs ws) e)
+use Rattle.check_rules.proofs.CheckLaws.{good_bucketlet, total_decides, bucketlet_decides, bucket_decides, refused_reply, accepted_answers, answers_accepted, refusal}
 
 -- a failure in the first bucket that is not good
 decided : (fs ws : List ℕ) (b k : ℕ) (f : Failing) → Reached fs ws b k → bucket_verdict (quality_of ws) fs ws b ≡ Fails f → check_reply fs ws ≡ verdict_reply (Fails f)
-decided fs ws b k f r e = ap verdict_reply (bucket_decides fs ws b k r (λ p. not_accepted (sym e ∙ p)) ∙ e)
+decided fs ws b k f r e = bucket_decides fs ws b k r (λ p. not_accepted (sym e ∙ p)) ∙ ap verdict_reply e
 
 sort_number_lem : (t : Bool) → sort_number (cond t Bucketlet Part) ≡ cond t 1 2
 sort_number_lem true = refl
@@ -53,11 +50,12 @@ total fs ws b p f = decided fs ws b 8 _ p (total_decides (quality_of ws) fs ws b
 pub checker : Checker
 checker =
     record {
-      only_then = λ fs ws e. only_then fs ws (ap (λ (a : Answer). a.accepted) e);
-      always_then = λ fs ws t. ap verdict_reply (accepted_verdict fs ws t);
-      exactly_then = λ fs ws. same_test (check_reply fs ws).accepted (accepted fs ws) (only_then fs ws) (λ t. reply_accepted _ (accepted_verdict fs ws t));
-      refusal = verdict_refusal;
-      refused = λ fs ws n. ap verdict_reply (refused_verdict fs ws n);
+      only_then = λ fs ws e. answers_accepted fs ws (ap (λ (a : Answer). a.accepted) e);
+      always_then = accepted_answers;
+      exactly_then = λ fs ws. same_test (check_reply fs ws).accepted (accepted fs ws) (answers_accepted fs ws) (λ t. ap (λ (a : Answer). a.accepted) (accepted_answers fs ws t));
+      refusal = refusal;
+      refused = refused_reply;
       range = range;
       total = total;
+      same_answer = same_answer;
     }

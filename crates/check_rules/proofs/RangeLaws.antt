@@ -19,7 +19,7 @@ use Rattle.check_rules.specs.declared.Failing.{Failing}
 use Rattle.check_rules.specs.declared.Verdict.TheVariants.{Accepted, Fails}
 use Rattle.check_rules.specs.Failing.{count_good, range_good, sort_of, range_verdict, start_verdict, bucketlet_verdict}
 use Rattle.check_rules.specs.Claims.{FirstRange}
-use Rattle.check_rules.proofs.FirstLaws.{Unrefused, all_accepted, accepted_all, first_at, first_unrefused}
+use Rattle.check_rules.proofs.FirstLaws.{all_accepted, accepted_all, first_at}
 
 -- accepted if a test holds, and else a failure
 module _ (t : Bool) (f : Failing) where
@@ -28,10 +28,6 @@ module _ (t : Bool) (f : Failing) where
 
   pub bad_fails : t ≡ false → cond t Accepted (Fails f) ≡ Fails f
   bad_fails e = ap (λ (u : Bool). cond u Accepted (Fails f)) e
-
-pub test_unrefused : (t : Bool) (f : Failing) → Unrefused (cond t Accepted (Fails f))
-test_unrefused true f = tt
-test_unrefused false f = tt
 
 -- no failure is accepted
 pub not_accepted : {f : Failing} → Fails f ≡ Accepted → ⊥
@@ -122,11 +118,3 @@ module _ (q : Quality) (fs : List ℕ) (a w s : ℕ) where
           (λ y g h. good_accepted _ _ (r.earlier_end y g h))
           (λ e. not_accepted (sym (bad_fails _ _ r.fails) ∙ e))
           ∙ bad_fails _ _ r.fails
-
-  range_unrefused : (i j : ℕ) → Unrefused (range_verdict q fs a w s i j)
-  unfolding range_verdict
-  range_unrefused i j = test_unrefused (range_good q fs a w s i j) (record { start = a + i; end = a + j; sort = sort_of (j - i) w })
-
-  pub bucketlet_unrefused : Unrefused (bucketlet_verdict q fs a w s)
-  unfolding bucketlet_verdict start_verdict
-  bucketlet_unrefused = first_unrefused (start_verdict q fs a w s) (λ i. first_unrefused (range_verdict q fs a w s i) (range_unrefused i) (w - i) (suc i)) w 0

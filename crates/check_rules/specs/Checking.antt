@@ -10,8 +10,8 @@ use Rattle.list_rules.specs.declared.Quality.{Quality}
 use Rattle.fit.specs.Accepted.{check_fault, quality_of, total_good}
 use Rattle.check_rules.specs.declared.Sort.TheVariants.{Bucket as OfBucket}
 use Rattle.check_rules.specs.declared.Verdict.{Verdict}
-use Rattle.check_rules.specs.declared.Verdict.TheVariants.{Refused, Accepted, Fails}
-use Rattle.check_rules.specs.Reply.{Answer, verdict_reply}
+use Rattle.check_rules.specs.declared.Verdict.TheVariants.{Accepted, Fails}
+use Rattle.check_rules.specs.Reply.{Answer, verdict_reply, refused_answer}
 use Rattle.check_rules.specs.Failing.{or_next, first_failing, bucketlet_verdict}
 
 -- bucketlet k of a bucket
@@ -28,10 +28,10 @@ bucket_verdict q fs ws b =
     let total = total_verdict q fs (start ws b) (end ws b) (bucket_at ws b).total in
     or_next (first_failing (bucketlet_answer q fs (bucket_at ws b)) 8 0) total
 
-unfoldable pub check_verdict : List ℕ → List ℕ → Verdict
-check_verdict fs ws =
-    let checked = first_failing (bucket_verdict (quality_of ws) fs ws) (buckets ws) 0 in
-    cond (eqb (check_fault fs ws) 0) checked (Refused (check_fault fs ws))
+unfoldable pub buckets_verdict : Quality → List ℕ → List ℕ → Verdict
+buckets_verdict q fs ws = first_failing (bucket_verdict q fs ws) (buckets ws) 0
 
 abbrev pub check_reply : List ℕ → List ℕ → Answer
-check_reply fs ws = verdict_reply (check_verdict fs ws)
+check_reply fs ws =
+    let checked = verdict_reply (buckets_verdict (quality_of ws) fs ws) in
+    cond (eqb (check_fault fs ws) 0) checked (refused_answer (check_fault fs ws))

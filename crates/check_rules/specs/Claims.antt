@@ -1,12 +1,14 @@
 -- What is claimed of the checker's answer (document 01, "What fits", "Asking" and "When a call is turned away"); proofs/Proved.antt proves it.
 -- Assumes nothing.
-use Rattle.std.specs.Prelude.{◌≡◌, true, false, cond, List, ℕ, ◌+◌, ◌-◌, ◌≤◌, ◌<◌, eqb}
+use Rattle.std.specs.Prelude.{◌≡◌, true, false, cond, List, ℕ, ◌+◌, ◌-◌, ◌≤◌, ◌<◌, eqb, Result}
 use Rattle.laws.specs.Sums.{part_sum}
 use Rattle.words_rules.specs.Words.{buckets, start, end, span}
 use Rattle.words_rules.specs.Decoded.{bucket_at, bucketlet_start, width_at, number_at}
 use Rattle.list_rules.specs.declared.Quality.{Quality}
+use Rattle.refusals.specs.declared.Refusal.{Refusal}
 use Rattle.fit.specs.Accepted.{check_fault, quality_of, bucketlet_good, total_good, bucket_good, accepted}
-use Rattle.check_rules.specs.Reply.{refused_answer, accepted_answer, failed_answer}
+use Rattle.check_rules.specs.declared.Verdict.{Verdict}
+use Rattle.check_rules.specs.Reply.{refused_answer, accepted_answer, failed_answer, answer_of}
 use Rattle.check_rules.specs.Failing.{range_good}
 use Rattle.check_rules.specs.Checking.{check_reply}
 
@@ -42,3 +44,5 @@ pub record Checker : Type 0 where
   pub total : (fs ws : List ℕ) (b : ℕ) → Reached fs ws b 8
       → total_good (quality_of ws) (part_sum (start ws b) (span ws b) fs) (bucket_at ws b).total ≡ false
       → check_reply fs ws ≡ failed_answer 3 (start ws b) (end ws b)
+  -- no two answers have the same number and values
+  pub same_answer : (r s : Result Verdict Refusal) → answer_of r ≡ answer_of s → r ≡ s

@@ -8,13 +8,12 @@ use Rattle.fit.specs.Fit.{near, fits}
 use Rattle.check_rules.specs.declared.Sort.{Sort}
 use Rattle.check_rules.specs.declared.Sort.TheVariants.{Bucketlet, Part}
 use Rattle.check_rules.specs.declared.Verdict.{Verdict}
-use Rattle.check_rules.specs.declared.Verdict.TheVariants.{Refused, Accepted, Fails}
+use Rattle.check_rules.specs.declared.Verdict.TheVariants.{Accepted, Fails}
 
 -- ---- what fails first on a way
 
 -- an answer, or the next one if nothing is against it
 abbrev pub or_next : Verdict → Verdict → Verdict
-or_next (Refused n) next = Refused n
 or_next Accepted next = next
 or_next (Fails f) next = Fails f
 

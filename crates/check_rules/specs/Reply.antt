@@ -1,11 +1,13 @@
--- The number and the values of each case of the checker's answer (document 01, "Asking" and "When a call is turned away"), and the case that
--- such a reply is.
+-- The number and the values of the checker's answer (document 01, "Asking" and "When a call is turned away"). No two answers have the same (claim
+-- `same_answer`).
 -- Assumes nothing.
-use Rattle.std.specs.Prelude.{Bool, true, false, cond, ℕ, eqb}
+use Rattle.std.specs.Prelude.{Bool, true, false, ℕ, Result, Ok, Err}
+use Rattle.refusals.specs.declared.Refusal.{Refusal}
+use Rattle.refusals.specs.Numbers.{number_of}
 use Rattle.check_rules.specs.declared.Sort.{Sort}
 use Rattle.check_rules.specs.declared.Sort.TheVariants.{Bucketlet, Part, Bucket}
 use Rattle.check_rules.specs.declared.Verdict.{Verdict}
-use Rattle.check_rules.specs.declared.Verdict.TheVariants.{Refused, Accepted, Fails}
+use Rattle.check_rules.specs.declared.Verdict.TheVariants.{Accepted, Fails}
 
 -- a refusal's number, or 0; whether it is accepted; the sort of what fails, or 0; the range that fails, or 0 to 0
 pub record Answer : Type 0 where
@@ -30,15 +32,9 @@ sort_number Part = 2
 sort_number Bucket = 3
 
 abbrev pub verdict_reply : Verdict → Answer
-verdict_reply (Refused n) = refused_answer n
 verdict_reply Accepted = accepted_answer
 verdict_reply (Fails f) = failed_answer (sort_number f.sort) f.start f.end
 
-abbrev pub sort_of_number : ℕ → Sort
-sort_of_number n = cond (eqb n 1) Bucketlet (cond (eqb n 2) Part Bucket)
-
-abbrev pub verdict_of : Answer → Verdict
-verdict_of a =
-    cond (eqb a.refusal 0)
-    (cond a.accepted Accepted (Fails (record { start = a.start; end = a.end; sort = sort_of_number a.sort })))
-    (Refused a.refusal)
+abbrev pub answer_of : Result Verdict Refusal → Answer
+answer_of (Ok v) = verdict_reply v
+answer_of (Err e) = refused_answer (number_of e)

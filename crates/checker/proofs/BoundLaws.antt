@@ -19,16 +19,7 @@ use Rattle.checker.specs.declared.bound.Bound.{Bound}
 use Rattle.checker.specs.declared.bound.Point.{Point}
 use Rattle.checker.specs.declared.bound.FarEnds.{FarEnds}
 use Rattle.checker.specs.Private.Searching.{BadEnd, FirstStart}
-use Rattle.checker.specs.Private.Breaking.{measured, entry_measured, range_breaks, over_at, under_at, height_at, IsPoint, stepped, Steps, Usable, Counted, Met, Far, FarAll}
-
--- what has the same numbers is the same
-pub same_point : (p r : Point) → p.at ≡ r.at → p.over ≡ r.over → p.under ≡ r.under → p ≡ r
-same_point p r a o u = λ i. record { at = a i; over = o i; under = u i }
-
-pub same_bound : (b c : Bound) → b.start ≡ c.start → b.width ≡ c.width → b.over.count ≡ c.over.count → b.over.entry ≡ c.over.entry
-    → b.under.count ≡ c.under.count → b.under.entry ≡ c.under.entry → b.least ≡ c.least → b ≡ c
-same_bound b c s w oc oe uc ue l =
-    λ i. record { start = s i; width = w i; over = record { count = oc i; entry = oe i }; under = record { count = uc i; entry = ue i }; least = l i }
+use Rattle.checker.specs.Private.Breaking.{measured, entry_measured, range_breaks, over_at, under_at, height_at, IsPoint, stepped, Steps, Usable, Met, Far, FarAll}
 
 abbrev height : Point → ℕ
 height p = p.over + p.under
@@ -155,21 +146,6 @@ module _ (fs : List ℕ) (b : Bound) where
   pub under_small : Usable fs b → (p : Point) → IsPoint fs b p → p.under < 2 ^ 53
   under_small u p is = omega (arith, u.under_small, is.under, under_split 0 p.at (omega arith) is.within)
 
-  -- the point after all entries
-  module _ (count : ℕ) (c : Counted fs b count) where
-    pub whole_small : measured b.over count b.width < 2 ^ 53
-    whole_small = rw c.counts c.usable.over_small
-
-    pub end_point : IsPoint fs b (record { at = b.width; over = measured b.over count b.width; under = 0 })
-    end_point =
-        let n : b.width - b.width ≡ 0 = omega arith in
-        let u : 0 ≡ measured b.under 0 0 = omega arith in
-        record {
-          within = omega arith;
-          over = ap (λ (f : ℕ). measured b.over f b.width) c.counts;
-          under = u ∙ (λ k. measured b.under (part_sum (b.start + b.width) (sym n k) fs) (sym n k));
-        }
-
   -- a point beyond something is not the first
   pub not_first : (p : Point) → IsPoint fs b p → (reach : ℕ) → reach < p.over → 0 < p.at
   not_first p is reach h = ⊎_elim (λ (z : p.at ≡ 0). absurd (none z)) (λ (g : 0 < p.at). g) (eq-zero-or-pos p.at)
@@ -178,9 +154,6 @@ module _ (fs : List ℕ) (b : Bound) where
       none z = let o = is.over ∙ ap (over_at b fs) z in omega arith
 
   -- ---- far ends
-
-  pub far_none : (reach : ℕ) (p : Point) → IsPoint fs b p → p.at ≡ b.width → Far fs b reach (record { last = p; highest = 0 })
-  far_none reach p is e = record { point = is; far = λ j h l. absurd (omega arith); lower = λ j h l. absurd (omega arith); met = inl refl }
 
   -- they are far from every earlier start
   pub far_earlier : (reach less : ℕ) (e : FarEnds) → less ≤ reach → Far fs b reach e → Far fs b less e
@@ -244,9 +217,6 @@ module _ (fs : List ℕ) (b : Bound) where
   -- the first start of a range that breaks the bound, from the last start down
   abbrev pub FirstFrom : ℕ → ℕ → Type 0
   FirstFrom = FirstStart b.width (range_breaks b fs)
-
-  pub first_none : FirstFrom b.width b.width
-  first_none = record { within = omega arith; earlier = λ x y h g. absurd (omega arith); ended = λ h. absurd (omega arith) }
 
   pub first_kept : (i first : ℕ) → FirstFrom (suc i) first → ((y : ℕ) → i < y → y ≤ b.width → range_breaks b fs i y ≡ false) → FirstFrom i first
   first_kept i first d none =

@@ -14,7 +14,6 @@ use Rattle.words_rules.specs.Words.{theta, qn, qd, buckets, end}
 use Rattle.words_rules.specs.Decoded.{bucket_at, class_at, bucketlet_start, width_at}
 use Rattle.words_rules.specs.Claims.{Holds}
 use Rattle.words_rules.proofs.Proved.{histogram}
-use Rattle.list_rules.specs.declared.Quality.{Quality}
 use Rattle.list_rules.specs.Frequencies.{list_sentences}
 use Rattle.fit.specs.Accepted.{check_fault, quality_of}
 use Rattle.laws.proofs.BetweenLaws.{is_within}
@@ -50,5 +49,5 @@ module _ (fs ws : List ℕ) (e : check_fault fs ws ≡ 0) where
         let n = held.in_range.eight_widths in
         omega (arith, prefix_suc k r.widths, prefix_mono (suc k) 8 r.widths g, prefix_all 8 r.widths (omega arith), held.in_range.ends, end_inside)
 
-    pub classed : (q : Quality) → Sound fs q → (k : ℕ) → k < 8 → Classed fs q (bucketlet_start (bucket_at ws b) k) (width_at (bucket_at ws b) k) (class_at (bucket_at ws b) k)
-    classed q s k g = record { sound = s; inside = bucketlet_inside k g; narrow = held.widths k; used = held.class_used k g }
+    pub classed : (k : ℕ) → k < 8 → Classed fs (bucketlet_start (bucket_at ws b) k) (width_at (bucket_at ws b) k) (class_at (bucket_at ws b) k)
+    classed k g = record { inside = bucketlet_inside k g; narrow = held.widths k; used = held.class_used k g }

@@ -1,4 +1,3 @@
-pub mod ProductLaws
 pub mod SearchSteps
 pub mod HistogramLaws
 pub mod BucketSteps

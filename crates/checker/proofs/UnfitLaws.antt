@@ -20,7 +20,7 @@ use Rattle.list_rules.specs.declared.Quality.{Quality}
 use Rattle.fit.specs.Fit.{fits}
 use Rattle.fit.proofs.FitLaws.{Near, Small, fits_says, small_fits, near_fits}
 use Rattle.checker.specs.Private.Searching.{Searchable, FirstStart, unfit}
-use Rattle.checker.specs.Private.Breaking.{breaks, range_breaks, count_bound, estimate_bound, Limited, Usable}
+use Rattle.checker.specs.Private.Breaking.{breaks, range_breaks, count_bound, estimate_bound, Usable}
 
 -- a range that is bad in one of two ways
 module _ (w : ℕ) {bad one other : ℕ → ℕ → Bool}
@@ -119,9 +119,6 @@ module _ (fs : List ℕ) (q : Quality) (a w s : ℕ) (p : Searchable fs q a w s)
           (earlier_start w (λ x y h l e c. neither_breaks x y h l c e) estimate_breaks j i d c (omega arith))
 
   -- ---- their numbers are small
-
-  pub limited : Limited q w s
-  limited = record { theta_small = p.sound.theta_small; qn_small = p.sound.qn_small; qd_small = p.sound.qd_small; narrow = p.narrow; number_small = p.number_small }
 
   least_small : q.qd * (q.theta * w) < 2 ^ 53
   least_small = omega (arith, mul-le-mul p.sound.qd_small (mul-le-mul p.sound.theta_small p.narrow))

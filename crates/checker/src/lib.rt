@@ -1,5 +1,7 @@
 // The checker: whether a histogram is accepted for a frequency list, and else what fails first.
 
+// `as` stands where the library has no `From`, between usize and sized numbers, and where a number is proved to fit: `try_from` adds an error that never comes.
+
 #![tactic(auto)]
 
 mod bound;
@@ -7,40 +9,26 @@ mod bucket;
 mod range;
 
 ghost use Rattle.std.specs.Prelude.{◌≡◌};
-ghost use Rattle.words_rules.specs.Words.{buckets};
-ghost use Rattle.check_rules.specs.Reply.{verdict_reply, verdict_of};
-ghost use Rattle.check_rules.specs.Failing.{first_failing};
-ghost use Rattle.check_rules.specs.Checking.{bucket_verdict, check_reply};
-ghost use Rattle.checker.specs.Private.Searching.{Checkable};
+ghost use Rattle.check_rules.specs.Reply.{answer_of};
+ghost use Rattle.check_rules.specs.Checking.{check_reply};
 
-use bucket::bucket_verdict;
+use bucket::Matched;
 use check_rules::Verdict;
-use list_rules::Quality;
+use refusals::Refusal;
 
-// What fails first of all buckets, in order.
-fn buckets_verdict(freqs: &[u32], words: &[u32], q: Quality) -> Verdict
-    requires { Checkable freqs.now words.now q }
-    ensures { result ≡ first_failing (bucket_verdict q freqs.now words.now) (buckets words.now) 0 }
+// Whether the histogram is accepted for the list, and else what fails first.
+pub fn check(freqs: &[u32], words: &[u32]) -> Result<Verdict, Refusal>
+    ensures { answer_of result ≡ check_reply freqs.now words.now }
 {
-    let buckets = words::bucket_count(words) as usize;
-    for b in 0..buckets {
-        let answer = bucket_verdict(freqs, words, q, b);
-        let Verdict::Accepted = answer else {
-            return answer;
-        };
-    }
-    Verdict::Accepted
-}
-
-// Whether the histogram is accepted for the list, what fails first, or the number of the refusal.
-#[tactic(auto, using(check_rules::proofs::CheckLaws::refused_verdict, check_rules::proofs::CheckLaws::verdict_case))]
-pub fn check(freqs: &[u32], words: &[u32]) -> Verdict
-    ensures reply { verdict_reply result ≡ check_reply freqs.now words.now }
-    ensures case { result ≡ verdict_of (check_reply freqs.now words.now) }
-{
-    let fault = check_faults::check_fault(freqs, words);
-    if fault != 0 {
-        return Verdict::Refused(fault);
-    }
-    buckets_verdict(freqs, words, check_faults::quality_of(words))
+    check_faults::check_fault(freqs, words)?;
+    let quality = check_faults::quality_of(words);
+    let matched = Matched {
+        freqs,
+        words,
+        quality,
+    };
+    Ok(match matched.check() {
+        Ok(()) => Verdict::Accepted,
+        Err(failing) => Verdict::Fails(failing),
+    })
 }

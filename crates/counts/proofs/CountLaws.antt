@@ -13,11 +13,10 @@ use lib.Bits.{bit_or, or_shifted}
 use lib.Count.{count_leading_zeros, leading_top}
 use lib.Pow.{pow_mono}
 use Rattle.laws.specs.Each.{each}
-use Rattle.laws.specs.Reply.{answered, refused, case_of}
+use Rattle.laws.specs.Reply.{answered}
 use Rattle.laws.proofs.EachLaws.{each_at}
-use Rattle.laws.proofs.ReplyLaws.{answered_case, refused_case}
 use Rattle.laws.proofs.Tests.{by_lt, true_not_false, is_false, same_test}
-use Rattle.counts_rules.specs.Limit.{limit}
+use Rattle.counts_rules.specs.Limit.{limit, countable}
 use Rattle.counts_rules.specs.Form.{base, used_class}
 use Rattle.counts_rules.specs.Claims.{HighestBit}
 use Rattle.counts_rules.specs.Class.{class_of, class_start, class_number}
@@ -26,19 +25,7 @@ use Rattle.counts_rules.proofs.ClassLaws.{Reached, class_none, class_eq, start_i
 use Rattle.counts_rules.proofs.BaseLaws.{used_says, reached_by_two, reached_small}
 use Rattle.counts_rules.proofs.TotalLaws.{Valid, highest_is, highest_eq, shift_small, bits_small, middle_small, valid_says, says_valid}
 use Rattle.counts_tables.specs.Entries.{start_of, number_of}
-
--- ---- a test decides between the answer and the refusal
-
-module _ {A : Type 0} (value refusal : ℕ → A) where
-  pub replied : (t : Bool) (w v n : ℕ) → t ≡ true → w ≡ v
-      → (answered w ≡ cond t (answered v) (refused n)) × (value w ≡ case_of value refusal (cond t (answered v) (refused n)))
-  replied true w v n e q = answered_case value refusal w (answered v) (ap answered q)
-  replied false w v n e q = absurd (true_not_false e refl)
-
-  pub turned_away : (t : Bool) (v n : ℕ) → t ≡ false → (n ≡ 0 → ⊥)
-      → (refused n ≡ cond t (answered v) (refused n)) × (refusal n ≡ case_of value refusal (cond t (answered v) (refused n)))
-  turned_away true v n e z = absurd (true_not_false refl e)
-  turned_away false v n e z = refused_case value refusal n (refused n) z refl
+use Rattle.counts.specs.Reply.{total_reply, total_meaning}
 
 pub not_used : (c : ℕ) → (c < 63 → (c ≡ 2 → ⊥) → ⊥) → used_class c ≡ false
 not_used c h = is_false (used_class c) (λ t. let u = used_says c t in h u.0 u.1)
@@ -172,6 +159,10 @@ number_in c t = simp t
 
 -- ---- the total code
 
+pub total_answered : (t w : ℕ) → true ≡ countable t → w ≡ total_code t → answered w ≡ total_reply t
+unfolding total_reply
+total_answered t w h e = simp (sym h) (ap answered e)
+
 -- the bits, five places up, and the shift below them
 pub code_packed : (t s x : ℕ) → t ≤ limit → s ≡ shift t → x ≡ bits t * 32 → bit_or x s ≡ total_code t
 unfolding total_code
@@ -223,3 +214,7 @@ number_packed c b s r m f g h e t =
     let p = mul-le-mul v.bits_top (pow_mono {i = code_shift c} {j = 23} v.shift_top) in
     let w : code_bits c * 2 ^ code_shift c % 2 ^ 32 ≡ code_bits c * 2 ^ code_shift c = mod-eq_of_lt (omega arith) in
     rw (f, g, h, e, w) (or_shifted (code_bits c) (code_shift c) (middle (code_shift c)) (middle_small (code_shift c)))
+
+pub total_meant : (c w : ℕ) → true ≡ valid_code c → w ≡ total_number c → answered w ≡ total_meaning c
+unfolding total_meaning
+total_meant c w h e = simp (sym h) (ap answered e)

@@ -1,31 +1,11 @@
 -- What the four calls answer: a refusal's number, or 0 and a value (document 01, "When a call is turned away", 16 and 17).
 -- Assumes nothing.
 use Rattle.std.specs.Prelude.{cond, ℕ}
-use Rattle.laws.specs.Reply.{Reply, answered, refused, case_of}
+use Rattle.laws.specs.Reply.{Reply, answered, refused}
 use Rattle.counts_rules.specs.Limit.{countable}
 use Rattle.counts_rules.specs.Form.{base, used_class}
 use Rattle.counts_rules.specs.Class.{class_of, class_number}
 use Rattle.counts_rules.specs.Total.{total_code, total_number, valid_code}
-use Rattle.counts.specs.declared.Coded.{Coded}
-use Rattle.counts.specs.declared.Coded.TheVariants.{Code, Refused as NotCoded}
-use Rattle.counts.specs.declared.Meaning.{Meaning}
-use Rattle.counts.specs.declared.Meaning.TheVariants.{Number, Refused as NotRead}
-
--- the number and the value of each case of an answer
-abbrev pub coded_reply : Coded → Reply
-coded_reply (Code c) = answered c
-coded_reply NotCoded = refused 16
-
-abbrev pub meaning_reply : Meaning → Reply
-meaning_reply (Number n) = answered n
-meaning_reply NotRead = refused 17
-
--- and the answer of a reply
-abbrev pub coded_of : Reply → Coded
-coded_of r = case_of Code (λ _. NotCoded) r
-
-abbrev pub meaning_of : Reply → Meaning
-meaning_of r = case_of Number (λ _. NotRead) r
 
 -- 16 for a count above the limit
 unfoldable pub class_reply : ℕ → Reply

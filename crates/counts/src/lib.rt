@@ -8,27 +8,16 @@ ghost use Rattle.counts_rules.specs.Form.{base, used_class};
 ghost use Rattle.counts_rules.specs.Class.{class_of};
 ghost use Rattle.counts_rules.specs.Total.{highest_bit, shift, middle, valid_fields, valid_code};
 ghost use Rattle.counts_tables.specs.Entries.{start_of};
-ghost use Rattle.counts.specs.Reply.{coded_reply, meaning_reply, coded_of, meaning_of, class_reply, class_meaning, total_reply, total_meaning};
+ghost use Rattle.refusals.specs.Answers.{reply_of};
+ghost use Rattle.counts.specs.Reply.{class_reply, class_meaning, total_reply, total_meaning};
+
+use refusals::Refusal;
 
 // The largest count that is coded.
 const LIMIT: u32 = 1073741823;
 
 // The whole part of (√2 - 1) · 2^32: the C of the paper's Figure 3.
 const SQRT_2_LESS_1: u32 = 1779033703;
-
-// What a count is coded as.
-#[derive(Clone, Copy)]
-pub enum Coded {
-    Code(u32),
-    Refused,
-}
-
-// What a class or a total code stands for.
-#[derive(Clone, Copy)]
-pub enum Meaning {
-    Number(u32),
-    Refused,
-}
 
 // Whether a count can be coded, as class or total.
 fn is_countable(count: u32) -> bool
@@ -42,18 +31,14 @@ fn highest_bit(count: u32) -> u32
     requires { 1 ≤ count }
     ensures { (result ≡ highest_bit count) × (result ≤ 31) }
 {
-    31 - u32::leading_zeros(count)
+    31 - count.leading_zeros()
 }
 
 // 1 if a count is in a class or above it, else 0.
 fn reached(class: u32, count: u32) -> u32
     ensures { (result ≡ cond (leb (start_of class) count) 1 0) × (result ≤ 1) }
 {
-    if counts_tables::class_start(class) <= count {
-        1
-    } else {
-        0
-    }
+    u32::from(counts_tables::class_start(class) <= count)
 }
 
 // The class of a count from 1 up. Two classes make less than one power of two, so it is at most three classes above that of the power; counting those that
@@ -68,39 +53,34 @@ fn class_search(count: u32) -> u32
 
 // The class of a count, or 16.
 #[tactic(auto, using(crate::proofs::CountLaws::no_class), unfolding(crate::specs::Reply::class_reply))]
-pub fn class_of(count: u32) -> Coded
-    ensures reply { coded_reply result ≡ class_reply count }
-    ensures case { result ≡ coded_of (class_reply count) }
+pub fn class_of(count: u32) -> Result<u32, Refusal>
+    ensures { reply_of result ≡ class_reply count }
 {
     if !is_countable(count) {
-        return Coded::Refused;
+        return Err(Refusal::Count);
     }
     if count == 0 {
-        return Coded::Code(0);
+        return Ok(0);
     }
-    Coded::Code(class_search(count))
+    Ok(class_search(count))
 }
 
 // Whether a class is one that counts have.
 pub fn is_used_class(class: u32) -> bool
     ensures { result ≡ used_class class }
 {
-    if class == 2 {
-        return false;
-    }
-    class < 63
+    class != 2 && class < 63
 }
 
 // The number that a class stands for, or 17.
 #[tactic(auto, using(crate::proofs::CountLaws::number_in), unfolding(crate::specs::Reply::class_meaning))]
-pub fn number_of_class(class: u32) -> Meaning
-    ensures reply { meaning_reply result ≡ class_meaning class }
-    ensures case { result ≡ meaning_of (class_meaning class) }
+pub fn number_of_class(class: u32) -> Result<u32, Refusal>
+    ensures { reply_of result ≡ class_meaning class }
 {
     if !is_used_class(class) {
-        return Meaning::Refused;
+        return Err(Refusal::Reading);
     }
-    Meaning::Number(counts_tables::class_number(class))
+    Ok(counts_tables::class_number(class))
 }
 
 // Total codes take the steps of the paper's Figure 3, with its k as 7 and its s as 5; docs/PAPER.md has what is corrected.
@@ -118,16 +98,15 @@ fn shift_of(total: u32) -> u32
 
 // The code of a total, or 16: its highest seven bits above the shift that they had.
 #[tactic(auto, unfolding(crate::specs::Reply::total_reply))]
-pub fn code_of_total(total: u32) -> Coded
-    ensures reply { coded_reply result ≡ total_reply total }
-    ensures case { result ≡ coded_of (total_reply total) }
+pub fn code_of_total(total: u32) -> Result<u32, Refusal>
+    ensures { reply_of result ≡ total_reply total }
 {
     if !is_countable(total) {
-        return Coded::Refused;
+        return Err(Refusal::Count);
     }
     let shift = shift_of(total);
     let bits = total >> shift;
-    Coded::Code((bits << 5) | shift)
+    Ok((bits << 5) | shift)
 }
 
 // The least bits under a shift.
@@ -171,14 +150,13 @@ fn middle_of(shift: u32) -> u32
 
 // The number that a total code stands for, or 17.
 #[tactic(auto, unfolding(crate::specs::Reply::total_meaning))]
-pub fn number_of_total(code: u32) -> Meaning
-    ensures reply { meaning_reply result ≡ total_meaning code }
-    ensures case { result ≡ meaning_of (total_meaning code) }
+pub fn number_of_total(code: u32) -> Result<u32, Refusal>
+    ensures { reply_of result ≡ total_meaning code }
 {
     if !is_total_code(code) {
-        return Meaning::Refused;
+        return Err(Refusal::Reading);
     }
     let shift = code & 31;
     let bits = code >> 5;
-    Meaning::Number((bits << shift) | middle_of(shift))
+    Ok((bits << shift) | middle_of(shift))
 }

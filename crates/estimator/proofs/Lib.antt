@@ -1,3 +1,4 @@
 pub mod AskLaws
 pub mod WalkLaws
 pub mod SheetLaws
+pub mod LentLaws

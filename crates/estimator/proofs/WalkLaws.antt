@@ -1,12 +1,15 @@
 -- The walk over a bucket's bucketlets and over the buckets: what is summed so far is a sum of the definition, and it is small.
 -- Assumes nothing.
-use mathlib.Core.Path.{◌≡◌, refl, sym, ap, subst, ◌∙◌}
+use mathlib.Core.Path.{◌≡◌, sym, ap, subst, ◌∙◌}
 use mathlib.Core.Bool.{true}
-use mathlib.Core.List.{List}
+use mathlib.Core.List.{List, ◌∷◌}
 use Prim.Native.Nat.{ℕ, suc, ◌+◌, ◌-◌, ◌≤◌, ◌<◌}
 use native.Mathlib.Nat.{le_trans}
 use native.Mathlib.Omega.{arith}
-use Rattle.counts_rules.specs.Form.{used_class}
+use lib.ListN.{length, drop, length-drop}
+use lib.Seq.{drop-cons}
+use Rattle.counts_rules.specs.Form.{base, used_class}
+use Rattle.counts_rules.specs.Class.{class_number}
 use Rattle.words_rules.specs.declared.Bucket.{Bucket}
 use Rattle.words_rules.specs.Words.{entries, buckets, start, end}
 use Rattle.words_rules.specs.Decoded.{bucket_at, class_at, bucketlet_start, width_at, number_at}
@@ -21,7 +24,7 @@ use Rattle.estimate_rules.proofs.CutLaws.{rises}
 use Rattle.estimate_rules.proofs.RunningLaws.{in_last, in_order, sum_first, sum_last}
 use Rattle.estimate_rules.proofs.SpanLaws.{bucketlet_within, edge, edges_rise, edge_last, bucketlets_hold, buckets_hold}
 use Rattle.estimate_rules.proofs.SizeLaws.{Sized, sized_joined, bucketlet_sized, total_sized}
-use Rattle.estimator.specs.Private.Adding.{Small}
+use Rattle.estimator.specs.Private.Adding.{Small, Addable}
 use Rattle.estimator.proofs.AskLaws.{small_of}
 
 -- the first k bucketlets of a bucket are summed
@@ -31,9 +34,9 @@ pub record Walked (r : Bucket) (x y : ℕ) (sum : Fraction) (a k : ℕ) : Type 0
   pub summed : sum ≡ sum_of k (bucketlet_piece x y r)
 
 module _ (r : Bucket) (x y : ℕ) where
-  pub walk_start : (a : ℕ) → a ≡ bucketlet_start r 0 → Walked r x y nothing a 0
+  pub walk_start : (sum : Fraction) → sum ≡ nothing → (a : ℕ) → a ≡ bucketlet_start r 0 → Walked r x y sum a 0
   unfolding sum_of
-  walk_start a e = record { places = omega arith; at = e; summed = refl }
+  walk_start sum n a e = record { places = omega arith; at = e; summed = n }
 
   module _ (sum : Fraction) (a k : ℕ) (walked : Walked r x y sum a k) (l : k < 8) where
     next_at : a + width_at r k ≡ bucketlet_start r (suc k)
@@ -49,6 +52,41 @@ module _ (r : Bucket) (x y : ℕ) where
     pub walk_step : (t : Fraction) → t ≡ plus sum (piece x y a (width_at r k) (number_at r k))
         → Walked r x y t (a + width_at r k) (suc k)
     walk_step t e = record { places = omega arith; at = next_at; summed = e ∙ next_sum }
+
+-- and these are the widths and the classes of the others
+pub record Along (r : Bucket) (x y : ℕ) (sum : Fraction) (a : ℕ) (widths classes : List ℕ) : Type 0 where
+  pub k : ℕ
+  pub walked : Walked r x y sum a k
+  pub widths_left : widths ≡ drop k r.widths
+  pub classes_left : classes ≡ drop k r.classes
+
+module _ (r : Bucket) (x y : ℕ) (sum : Fraction) (a : ℕ) (ws cs : List ℕ) (g : Along r x y sum a ws cs) (eight : length r.widths ≡ 8) (as_many : length r.classes ≡ 8) where
+  module _ (w c : ℕ) (us ds : List ℕ) (p : ws ≡ w ∷ us) (q : cs ≡ c ∷ ds) where
+    pub some_left : g.k < 8
+    some_left = omega (arith, ap length (sym g.widths_left ∙ p), length-drop g.k r.widths)
+
+    next_width : w ∷ us ≡ width_at r g.k ∷ drop (suc g.k) r.widths
+    next_width = let l = some_left in sym p ∙ g.widths_left ∙ drop-cons r.widths g.k 0 (omega arith)
+
+    next_class : c ∷ ds ≡ class_at r g.k ∷ drop (suc g.k) r.classes
+    next_class = let l = some_left in sym q ∙ g.classes_left ∙ drop-cons r.classes g.k 0 (omega arith)
+
+    pub width_is : w ≡ width_at r g.k
+    width_is = let e = next_width in cc
+
+    pub class_is : c ≡ class_at r g.k
+    class_is = let e = next_class in cc
+
+    pub along_step : (t : Fraction) → t ≡ plus sum (piece x y a w (class_number base c)) → Along r x y t (a + w) us ds
+    along_step t e =
+        let wide = width_is in
+        let class = class_is in
+        record {
+          k = suc g.k;
+          walked = rw wide (walk_step r x y sum a g.k g.walked some_left t (e ∙ (λ i. plus sum (piece x y a (wide i) (class_number base (class i))))));
+          widths_left = let e = next_width in cc;
+          classes_left = let e = next_class in cc;
+        }
 
 module _ (ws : List ℕ) (readable : Readable ws) (x y : ℕ) where
   module _ (b : ℕ) (h : b < buckets ws) where
@@ -80,11 +118,18 @@ module _ (ws : List ℕ) (readable : Readable ws) (x y : ℕ) where
           subst (λ (t : Fraction). Small (plus sum t)) (sym p)
           (subst Small (sym (next_sum r x y sum a k w l)) (of_bucket (λ (r : Bucket). Small (sum_of (suc k) (bucketlet_piece x y r))) (sums_small (suc k) (omega arith))))
 
-      pub walk_end : (sum : Fraction) (a k : ℕ) → Walked r x y sum a k → k ≡ 8 → sum ≡ sum_of 8 (bucketlet_piece x y (bucket_at ws b))
-      walk_end sum a k w n =
-          w.summed
-          ∙ ap (λ (n : ℕ). sum_of n (bucketlet_piece x y r)) n
-          ∙ ap (λ (r : Bucket). sum_of 8 (bucketlet_piece x y r)) e
+      -- and of the next bucketlet
+      pub addable : (sum : Fraction) (a : ℕ) (us cs : List ℕ) (g : Along r x y sum a us cs) (eight : length r.widths ≡ 8) (as_many : length r.classes ≡ 8)
+          (w c : ℕ) (vs ds : List ℕ) → us ≡ w ∷ vs → cs ≡ c ∷ ds → Addable sum x y a w c
+      addable sum a us cs g eight as_many w c vs ds p q =
+          let wide = width_is r x y sum a us cs g eight as_many w c vs ds p q in
+          let class = class_is r x y sum a us cs g eight as_many w c vs ds p q in
+          let l = some_left r x y sum a us cs g eight as_many w c vs ds p q in
+          record {
+            class_used = ap used_class class ∙ class_used g.k l;
+            within = rw wide (walk_within sum a g.k g.walked l);
+            small = walk_small sum a g.k g.walked l _ (λ i. piece x y a (wide i) (class_number base (class i)));
+          }
 
   pub buckets_small : (n : ℕ) → n ≤ buckets ws → Small (sum_of n (bucket_piece ws x y))
   buckets_small n l =
@@ -98,12 +143,12 @@ pub record Passed (ws : List ℕ) (x y : ℕ) (sum : Fraction) (n : ℕ) : Type 
   pub summed : sum ≡ sum_of n (bucket_piece ws x y)
 
 module _ (ws : List ℕ) (readable : Readable ws) (x y : ℕ) (some : x < y) (within : y ≤ entries ws) where
-  pub pass_start : (b : ℕ) → b ≡ bucket_by_halving ws x → Passed ws x y nothing b
-  pass_start b e =
+  pub pass_start : (sum : Fraction) → sum ≡ nothing → (b : ℕ) → b ≡ bucket_by_halving ws x → Passed ws x y sum b
+  pass_start sum n b e =
       let p = e ∙ (histogram.entries ws readable).halved x (omega arith) in
       record {
         within = omega (arith, p, in_order ws readable x y some within);
-        summed = sym (ap (λ (n : ℕ). sum_of n (bucket_piece ws x y)) p ∙ sum_first ws readable x y some within);
+        summed = n ∙ sym (ap (λ (n : ℕ). sum_of n (bucket_piece ws x y)) p ∙ sum_first ws readable x y some within);
       }
 
   module _ (last : ℕ) (e : last ≡ bucket_by_halving ws (y - 1)) where
@@ -127,8 +172,7 @@ module _ (ws : List ℕ) (readable : Readable ws) (x y : ℕ) (some : x < y) (wi
       pub pass_step : n ≤ last → (t u : Fraction) → t ≡ bucket_piece ws x y n → u ≡ plus sum t → Passed ws x y u (suc n)
       pass_step l t u p q = record { within = omega (arith, last_is); summed = q ∙ next_passed t p }
 
-      pub pass_end : last < n → (sum ≡ exact ws x y) × Small sum
+      pub pass_end : last < n → sum ≡ exact ws x y
       pass_end l =
           let all : n ≡ suc (bucket_of ws (y - 1)) = omega (arith, last_is, passed.within) in
-          let is = passed.summed ∙ ap (λ (n : ℕ). sum_of n (bucket_piece ws x y)) all in
-          (is ∙ sym (sum_last ws readable x y some within), subst Small (sym is) (buckets_small ws readable x y _ (in_last ws readable x y some within).is_bucket))
+          passed.summed ∙ ap (λ (n : ℕ). sum_of n (bucket_piece ws x y)) all ∙ sym (sum_last ws readable x y some within)

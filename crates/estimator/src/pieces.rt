@@ -1,189 +1,122 @@
-// What the buckets and bucketlets that a range meets give to its estimate, and how their sum is rounded.
+// What the buckets and bucketlets that a range meets give to its estimate.
 
-ghost use Rattle.std.specs.Prelude.{◌≡◌, true, ◌+◌, ◌^◌, ◌≤◌, ◌<◌, max};
+ghost use Rattle.std.specs.Prelude.{◌≡◌, true, ◌+◌, ◌^◌, ◌≤◌, ◌<◌};
 ghost use Rattle.counts_rules.specs.Form.{base, used_class};
 ghost use Rattle.counts_rules.specs.Class.{class_number};
 ghost use Rattle.counts_rules.specs.Total.{total_number, valid_code};
-ghost use Rattle.counts.specs.Reply.{meaning_reply};
-ghost use Rattle.words_rules.specs.Words.{entries, buckets};
+ghost use Rattle.words_rules.specs.Words.{buckets};
 ghost use Rattle.words_rules.specs.Decoded.{bucket_at};
-ghost use Rattle.words_rules.specs.Reading.{Readable};
-ghost use Rattle.estimate_rules.specs.Fraction.{plus, rounded, sum_of};
-ghost use Rattle.estimate_rules.specs.Exact.{inside, overlap, piece, bucketlet_piece, total_at, bucket_piece, exact};
-ghost use Rattle.estimator.specs.Private.Adding.{Small, Addable};
+ghost use Rattle.estimate_rules.specs.Fraction.{plus, sum_of};
+ghost use Rattle.estimate_rules.specs.Exact.{piece, bucketlet_piece, total_at, bucket_piece, exact};
+ghost use Rattle.estimator.specs.Private.Adding.{Addable};
 
-use counts::Meaning;
+use super::question::Question;
+use super::ranges::Range;
+use super::sum::Sum;
 use estimate_rules::Fraction;
-
-// The number that an answer of the coding holds, 0 if it is refused.
-fn number_in(answer: Meaning) -> u64
-    ensures { result ≡ (meaning_reply answer).value }
-{
-    let Meaning::Number(s) = answer else {
-        return 0;
-    };
-    arithmetic::wide(s)
-}
+use words_reading::Histogram;
 
 fn class_number(class: u32) -> u64
     requires { used_class class ≡ true }
     ensures { result ≡ class_number base class }
 {
-    number_in(counts::number_of_class(class))
+    let Ok(number) = counts::number_of_class(class) else {
+        unreachable!()
+    };
+    u64::from(number)
 }
 
 fn total_number(code: u32) -> u64
     requires { valid_code code ≡ true }
     ensures { result ≡ total_number code }
 {
-    number_in(counts::number_of_total(code))
-}
-
-// Whether the range from x to y holds the span from a to e.
-fn is_inside(x: u32, y: u32, a: u32, e: u32) -> bool
-    ensures { result ≡ inside x y a e }
-{
-    x <= a && e <= y
-}
-
-// How many entries of the span from a to e the range from x to y holds.
-fn overlap_of(x: u32, y: u32, a: u32, e: u32) -> u32
-    ensures { result ≡ overlap x y a e }
-{
-    let from = arithmetic::larger_of(x, a);
-    let to = arithmetic::smaller_of(y, e);
-    arithmetic::left_of(to, from)
-}
-
-pub(crate) fn plus(e: Fraction, f: Fraction) -> Fraction
-    requires { Small (plus e f) }
-    ensures { result ≡ plus e f }
-{
-    Fraction {
-        whole: e.whole + f.whole,
-        top: e.top * f.bottom + f.top * e.bottom,
-        bottom: e.bottom * f.bottom,
-    }
-}
-
-#[tactic(auto, unfolding(estimate_rules::specs::Fraction::rounded))]
-fn rounded_of(e: Fraction) -> u64
-    requires { Small e }
-    ensures { result ≡ rounded e }
-{
-    e.whole + (e.top + (e.bottom - 1)) / e.bottom
-}
-
-// The estimate of a range that isn't empty, from its sum: rounded up once, and at least 1.
-pub(crate) fn answer_of(e: Fraction) -> u64
-    requires { Small e }
-    ensures { result ≡ max 1 (rounded e) }
-{
-    arithmetic::larger_of_wide(1, rounded_of(e))
+    u64::from(counts::number_of_total(code).unwrap())
 }
 
 // What a bucketlet at a, of width w, that stands for s gives.
-#[tactic(auto, using(estimate_rules::proofs::ExactLaws::piece_none))]
-fn piece_of(x: u32, y: u32, a: u32, w: u32, s: u64) -> Fraction
+#[tactic(auto, using(estimate_rules::proofs::ExactLaws::piece_none, estimate_rules::proofs::ExactLaws::piece_whole, estimate_rules::proofs::ExactLaws::piece_cut))]
+fn piece_of(range: Range, a: u32, w: u32, s: u64) -> Fraction
     requires { (a + w < 2 ^ 32) × (s ≤ 2 ^ 31) }
-    ensures { result ≡ piece x y a w s }
+    ensures { result ≡ piece range.x range.y a w s }
 {
-    let n = overlap_of(x, y, a, a + w);
+    let span = Range { x: a, y: a + w };
+    let n = range.overlap(span);
     if n == 0 {
-        return Fraction {
-            whole: 0,
-            top: 0,
-            bottom: 1,
-        };
+        return Fraction::whole(0);
     }
-    if is_inside(x, y, a, a + w) {
-        return Fraction {
-            whole: s,
-            top: 0,
-            bottom: 1,
-        };
+    if range.holds(span) {
+        return Fraction::whole(s);
     }
     Fraction {
         whole: 0,
-        top: arithmetic::wide(n) * s,
-        bottom: arithmetic::wide(w),
+        top: u64::from(n) * s,
+        bottom: u64::from(w),
     }
 }
 
 // A sum and what a bucketlet at a, of width w and of a class, adds to it: nothing if the range holds no entry of it.
-#[tactic(auto, using(estimate_rules::proofs::ExactLaws::piece_none, estimate_rules::proofs::FractionLaws::plus_nothing))]
-fn with_piece(sum: Fraction, x: u32, y: u32, a: u32, w: u32, class: u32) -> Fraction
-    requires { Addable sum x y a w class }
-    ensures { result ≡ plus sum (piece x y a w (class_number base class)) }
+#[tactic(auto, using(estimate_rules::proofs::ExactLaws::piece_none, estimate_rules::proofs::FractionLaws::plus_nothing, counts_rules::proofs::BaseLaws::number_small))]
+fn with_piece(sum: Sum, range: Range, a: u32, w: u32, class: u32) -> Sum
+    requires { Addable sum.fraction range.x range.y a w class }
+    ensures { result.fraction ≡ plus sum.fraction (piece range.x range.y a w (class_number base class)) }
 {
-    if overlap_of(x, y, a, a + w) == 0 {
+    if range.overlap(Range { x: a, y: a + w }) == 0 {
         return sum;
     }
-    plus(sum, piece_of(x, y, a, w, class_number(class)))
+    sum.plus(piece_of(range, a, w, class_number(class)))
 }
 
 // The number that the total of bucket b stands for.
-pub(crate) fn bucket_total(words: &[u32], b: usize) -> u64
-    requires { Readable words.now × (b < buckets words.now) }
-    ensures { result ≡ total_at words.now b }
+pub(crate) fn bucket_total(histogram: Histogram, b: usize) -> u64
+    requires { b < buckets histogram.words.now }
+    ensures { result ≡ total_at histogram.entry.words.now b }
 {
-    total_number(words::total_at(words, b))
+    total_number(words::total_at(histogram.words, b))
 }
 
 // What the bucketlets of bucket b give.
-fn bucketlets_piece(words: &[u32], x: u32, y: u32, b: usize) -> Fraction
-    requires { Readable words.now × (b < buckets words.now) }
-    ensures { result ≡ sum_of 8 (bucketlet_piece x y (bucket_at words.now b)) }
+fn bucketlets_piece(histogram: Histogram, range: Range, b: usize) -> Fraction
+    requires { b < buckets histogram.words.now }
+    ensures { result ≡ sum_of 8 (bucketlet_piece range.x range.y (bucket_at histogram.entry.words.now b)) }
 {
-    let bucket = words::bucket_at(words, b);
-    let mut sum = Fraction {
-        whole: 0,
-        top: 0,
-        bottom: 1,
-    };
+    let bucket = words::bucket_at(histogram.words, b);
+    let mut sum = Sum::nothing();
     let mut a = bucket.start;
-    for k in 0..8usize {
-        let w = bucket.widths[k];
-        sum = with_piece(sum, x, y, a, w, bucket.classes[k]);
-        a += w;
+    for (w, class) in bucket.widths.iter().zip(&bucket.classes) {
+        sum = with_piece(sum, range, a, *w, *class);
+        a += *w;
     }
-    sum
+    sum.fraction
 }
 
 // What bucket b gives: its total if the range holds it, else what its bucketlets give.
-pub(crate) fn bucket_piece(words: &[u32], x: u32, y: u32, b: usize) -> Fraction
-    requires { Readable words.now × (b < buckets words.now) }
-    ensures { result ≡ bucket_piece words.now x y b }
+#[tactic(auto, using(estimate_rules::proofs::ExactLaws::bucket_whole, estimate_rules::proofs::ExactLaws::bucket_parts))]
+pub(crate) fn bucket_piece(histogram: Histogram, range: Range, b: usize) -> Fraction
+    requires { b < buckets histogram.words.now }
+    ensures { result ≡ bucket_piece histogram.entry.words.now range.x range.y b }
 {
-    let start = words::start_at(words, b);
-    let end = words::end_at(words, b);
-    if is_inside(x, y, start, end) {
-        return Fraction {
-            whole: bucket_total(words, b),
-            top: 0,
-            bottom: 1,
-        };
+    let bucket = Range {
+        x: words::start_at(histogram.words, b),
+        y: words::end_at(histogram.words, b),
+    };
+    if range.holds(bucket) {
+        return Fraction::whole(bucket_total(histogram, b));
     }
-    bucketlets_piece(words, x, y, b)
+    bucketlets_piece(histogram, range, b)
 }
 
 // The sum that estimates a range that isn't empty, not yet rounded: the buckets before that of its first entry give nothing, nor do those after that
 // of its last.
-pub(crate) fn exact_of(words: &[u32], x: u32, y: u32) -> Fraction
-    requires { Readable words.now × (x < y) × (y ≤ entries words.now) }
-    ensures value { result ≡ exact words.now x y }
-    ensures small { Small result }
+pub(crate) fn exact_of(asked: Question) -> Sum
+    requires { asked.range.x < asked.range.y }
+    ensures { result.fraction ≡ exact asked.entry.histogram.words.now asked.entry.range.x asked.entry.range.y }
 {
-    let mut b = finder::bucket_of(words, x);
-    let last = finder::bucket_of(words, y - 1);
-    let mut sum = Fraction {
-        whole: 0,
-        top: 0,
-        bottom: 1,
-    };
-    while b <= last {
-        sum = plus(sum, bucket_piece(words, x, y, b));
-        b += 1;
+    let first = finder::bucket_of(asked.histogram.words, asked.range.x);
+    let last = finder::bucket_of(asked.histogram.words, asked.range.y - 1);
+    let mut sum = Sum::nothing();
+    // Buckets are packed words, and are asked for by number.
+    for b in first..=last {
+        sum = sum.plus(bucket_piece(asked.histogram, asked.range, b));
     }
     sum
 }

@@ -1,98 +1,127 @@
 // A worksheet of ranges. Each costs two searches by halving and its two cut buckets; for the buckets between them there are the running totals.
 
-ghost use Rattle.std.specs.Prelude.{◌≡◌, ◌++◌, ◌<◌, ◌≤◌, length, drop};
-ghost use Rattle.words_rules.specs.Words.{entries};
+ghost use Rattle.std.specs.Prelude.{◌≡◌, false, ◌<◌};
 ghost use Rattle.estimate_rules.specs.Exact.{exact};
 ghost use Rattle.estimate_rules.specs.Asking.{estimate};
-ghost use Rattle.estimate_rules.specs.Ranges.{range_count};
-ghost use Rattle.estimate_rules.specs.Worksheet.{short_fault, ranges_fault, worksheet_fault, worksheet_answers};
-ghost use Rattle.estimator.specs.Private.Adding.{Small};
-ghost use Rattle.estimator.specs.Private.Sheets.{WithTotals, Answerable};
+ghost use Rattle.estimate_rules.specs.Ranges.{some_refused};
+ghost use Rattle.estimate_rules.specs.Worksheet.{short_fault, ranges_fault};
+ghost use Rattle.estimator.specs.Private.Sheets.{WithTotals};
 
-use super::pieces::{answer_of, bucket_piece, plus};
-use super::ranges::{left_over, some_refused, x_at, y_at};
+use super::pieces::bucket_piece;
+use super::question::Question;
+use super::ranges::Ranges;
 use super::running;
+use super::sum::Sum;
 use estimate_rules::Fraction;
+use refusals::Refusal;
+use words_reading::Histogram;
 
 // 21: whether a word is left over, or 14 would refuse one of the ranges.
-fn ranges_fault(words: &[u32], sheet: &[u32]) -> bool
-    ensures { result ≡ ranges_fault words.now sheet.now }
+#[tactic(auto, unfolding(estimate_rules::specs::Worksheet::ranges_fault))]
+fn ranges_fault(words: &[u32], sheet: Ranges) -> bool
+    ensures { result ≡ ranges_fault words.now sheet.entry.words.now }
 {
-    left_over(sheet) || some_refused(words, sheet)
+    sheet.has_left_over() || sheet.some_refused(words)
 }
 
 // 19: whether there are too few running totals, or places for the answers.
-fn short_fault(words: &[u32], totals: &[u64], sheet: &[u32], lent: usize) -> bool
-    ensures { result ≡ short_fault words.now totals.now sheet.now lent }
+#[tactic(auto, unfolding(estimate_rules::specs::Worksheet::short_fault))]
+fn short_fault(words: &[u32], totals: &[u64], sheet: Ranges, lent: usize) -> bool
+    ensures { result ≡ short_fault words.now totals.now sheet.entry.words.now lent }
 {
-    running::is_short(words, totals.len()) || lent < sheet.len() / 2
-}
-
-// 7, 24, 8 to 12, 19, 20 and 21: the first of these sentences that is true, else 0.
-#[tactic(auto, using(estimate_rules::proofs::WorksheetLaws::sheet_read))]
-pub(crate) fn worksheet_fault(words: &[u32], totals: &[u64], sheet: &[u32], lent: usize) -> u32
-    ensures { result ≡ worksheet_fault words.now totals.now sheet.now lent }
-{
-    let read = words_reading::read_fault(words);
-    if read != 0 {
-        return read;
-    }
-    if short_fault(words, totals, sheet, lent) {
-        return 19;
-    }
-    if running::totals_fault(words, totals) {
-        return 20;
-    }
-    if ranges_fault(words, sheet) {
-        return 21;
-    }
-    0
+    running::is_short(words, totals.len()) || lent < sheet.count()
 }
 
 // The sum that estimates a range that isn't empty, not yet rounded: what the buckets of its two ends give, and the totals of those between.
-#[tactic(auto, using(crate::proofs::SheetLaws::one_piece, crate::proofs::SheetLaws::one_small))]
-fn exact_by(words: &[u32], totals: &[u64], x: u32, y: u32) -> Fraction
-    requires { WithTotals words.now totals.now × (x < y) × (y ≤ entries words.now) }
-    ensures value { result ≡ exact words.now x y }
-    ensures small { Small result }
+fn exact_by(asked: Question, totals: &[u64]) -> Sum
+    requires { WithTotals asked.histogram.words.now totals.now × (asked.range.x < asked.range.y) }
+    ensures { result.fraction ≡ exact asked.entry.histogram.words.now asked.entry.range.x asked.entry.range.y }
 {
-    let first = finder::bucket_of(words, x);
-    let last = finder::bucket_of(words, y - 1);
-    let piece = bucket_piece(words, x, y, first);
-    if first == last {
-        return piece;
-    }
-    let between = Fraction {
-        whole: totals[last] - totals[first + 1],
-        top: 0,
-        bottom: 1,
+    let first = finder::bucket_of(asked.histogram.words, asked.range.x);
+    let last = finder::bucket_of(asked.histogram.words, asked.range.y - 1);
+    let sum = Sum {
+        fraction: bucket_piece(asked.histogram, asked.range, first),
     };
-    plus(plus(piece, between), bucket_piece(words, x, y, last))
+    if first == last {
+        return sum;
+    }
+    let between = Fraction::whole(totals[last] - totals[first + 1]);
+    sum.plus(between)
+        .plus(bucket_piece(asked.histogram, asked.range, last))
 }
 
-// The estimate of a range within the list, 0 if it is empty.
-#[tactic(auto, using(estimate_rules::proofs::Proved::estimate_empty))]
-fn estimate_by(words: &[u32], totals: &[u64], x: u32, y: u32) -> u64
-    requires { WithTotals words.now totals.now × (x ≤ y) × (y ≤ entries words.now) }
-    ensures { result ≡ estimate words.now x y }
+// The estimate, 0 if the range is empty. As Question::estimate, but for what gives the sum: as a closure that would need two `requires`, longer than this.
+#[tactic(auto, using(estimate_rules::proofs::Proved::estimate_empty, estimate_rules::proofs::AskingLaws::estimate_some))]
+fn estimate_by(asked: Question, totals: &[u64]) -> u64
+    requires { WithTotals asked.histogram.words.now totals.now }
+    ensures { result ≡ estimate asked.entry.histogram.words.now asked.entry.range.x asked.entry.range.y }
 {
-    if x == y {
+    if asked.range.x == asked.range.y {
         return 0;
     }
-    answer_of(exact_by(words, totals, x, y))
+    exact_by(asked, totals).rounded()
 }
 
-// Writes the estimates of all ranges into the first places. Answers how many they are.
-pub(crate) fn put_answers(words: &[u32], totals: &[u64], sheet: &[u32], out: &mut [u64]) -> usize
-    requires { Answerable words.now totals.now sheet.now (length out.old) }
-    ensures value { result ≡ range_count sheet.now }
-    ensures out_after { out.new ≡ worksheet_answers words.now sheet.now ++ drop (range_count sheet.now) out.old }
-{
-    let ranges = sheet.len() / 2;
-    let mut i: usize = 0;
-    while i < ranges {
-        out[i] = estimate_by(words, totals, x_at(sheet, i), y_at(sheet, i));
-        i += 1;
+// A histogram, its running totals, and ranges within its list.
+#[derive(Clone, Copy, Debug)]
+pub(crate) struct Worksheet<'a> {
+    pub(crate) histogram: Histogram<'a>,
+    pub(crate) totals: &'a [u64],
+    pub(crate) ranges: Ranges<'a>,
+    ghost right: { WithTotals histogram.words.now totals.now },
+    ghost in_list: { some_refused histogram.words.now ranges.words.now ≡ false },
+}
+
+impl<'a> Worksheet<'a> {
+    ghost use Rattle.std.specs.Prelude.{◌++◌, ◌≤◌, length, drop, IfOk};
+    ghost use Rattle.refusals.specs.Answers.{fault_of};
+    ghost use Rattle.estimate_rules.specs.Ranges.{range_count};
+    ghost use Rattle.estimate_rules.specs.Worksheet.{worksheet_fault, worksheet_answers};
+
+    // With so many places lent for the answers. Refused with 7, 24, 8 to 12, 19, 20 or 21.
+    #[tactic(auto, using(estimate_rules::proofs::WorksheetLaws::sheet_read, estimate_rules::proofs::WorksheetLaws::sheet_short, estimate_rules::proofs::WorksheetLaws::sheet_totals, estimate_rules::proofs::WorksheetLaws::sheet_ranges, estimate_rules::proofs::WorksheetLaws::sheet_none, estimate_rules::proofs::WorksheetLaws::totals_enough, estimate_rules::proofs::WorksheetLaws::sheet_in_list, refusals::proofs::NumberLaws::numbered))]
+    pub(crate) fn read(
+        words: &'a [u32],
+        totals: &'a [u64],
+        sheet: &'a [u32],
+        lent: usize,
+    ) -> Result<Worksheet<'a>, Refusal>
+        ensures fault { fault_of result ≡ worksheet_fault words.now totals.now sheet.now lent }
+        ensures parts { IfOk result (λ s. (s.histogram.words.now ≡ words.now) × (s.ranges.words.now ≡ sheet.now)) }
+    {
+        let histogram = Histogram::read(words)?;
+        let ranges = Ranges { words: sheet };
+        if short_fault(words, totals, ranges, lent) {
+            return Err(Refusal::Places);
+        }
+        if running::totals_fault(histogram, totals) {
+            return Err(Refusal::Totals);
+        }
+        if ranges_fault(words, ranges) {
+            return Err(Refusal::Worksheet);
+        }
+        Ok(Worksheet {
+            histogram,
+            totals,
+            ranges,
+        })
     }
-    ranges
+
+    // Writes the estimates of all ranges into the first places. Answers how many they are.
+    pub(crate) fn put_answers(self, out: &mut [u64]) -> usize
+        requires { range_count self.ranges.words.now ≤ length out.old }
+        ensures value { result ≡ range_count self.entry.ranges.words.now }
+        ensures out_after { let s = self.entry in out.new ≡ worksheet_answers s.histogram.words.now s.ranges.words.now ++ drop result out.old }
+    {
+        let count = self.ranges.count();
+        // Ranges are lent as words, two a range, and are asked for by number.
+        for i in 0..count {
+            let asked = Question {
+                histogram: self.histogram,
+                range: self.ranges.at(i),
+            };
+            out[i] = estimate_by(asked, self.totals);
+        }
+        count
+    }
 }

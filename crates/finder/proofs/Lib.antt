@@ -1,1 +1,2 @@
 pub mod HalvingSteps
+pub mod PlaceLaws

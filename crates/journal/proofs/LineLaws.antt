@@ -22,7 +22,7 @@ use Rattle.journal_rules.specs.Lines.{signed, unsigned, sumℤ, frequency_at, af
 use Rattle.journal_rules.specs.Replaying.{below_zero, breaks}
 use Rattle.journal_rules.proofs.SignedLaws.{change_moved, signed_at, signed_length, signed_sum, signed_set, unsigned_signed, sum_after_line}
 use Rattle.journal_rules.proofs.LinesLaws.{signed_kept}
-use Rattle.journal.specs.declared.lines.Changed.TheVariants.{To, Broken}
+use Rattle.std.specs.Prelude.{None, Some}
 use Rattle.journal.specs.Private.Changing.{changed_by, line_of, line_changed, line_left}
 use Rattle.journal.proofs.CountLaws.{to_is, broken_is, above_is, count_answered, broken_answered}
 
@@ -30,21 +30,21 @@ module _ (fs : List ℕ) (e : ℕ) (c : ℤ) where
   abbrev after : List ℤ
   after = after_line (signed fs) e c
 
-  pub line_broken : breaks (after_line (signed fs) e c) ≡ true → (Broken ≡ line_changed fs e c) × (fs ≡ line_left fs e c)
+  pub line_broken : breaks (after_line (signed fs) e c) ≡ true → (None ≡ line_changed fs e c) × (fs ≡ line_left fs e c)
   unfolding line_changed line_left
-  line_broken t = (chosen (breaks after) Broken (To (sum (line_of fs e c))) t, chosen (breaks after) fs (line_of fs e c) t)
+  line_broken t = (chosen (breaks after) None (Some (sum (line_of fs e c))) t, chosen (breaks after) fs (line_of fs e c) t)
 
-  line_kept : breaks after ≡ false → (To (sum (line_of fs e c)) ≡ line_changed fs e c) × (line_of fs e c ≡ line_left fs e c)
+  line_kept : breaks after ≡ false → (Some (sum (line_of fs e c)) ≡ line_changed fs e c) × (line_of fs e c ≡ line_left fs e c)
   unfolding line_changed line_left
-  line_kept f = (not_chosen (breaks after) Broken (To (sum (line_of fs e c))) f, not_chosen (breaks after) fs (line_of fs e c) f)
+  line_kept f = (not_chosen (breaks after) None (Some (sum (line_of fs e c))) f, not_chosen (breaks after) fs (line_of fs e c) f)
 
   -- a line that is answered with a sum kept both bounds, and one that is not broke one
 
-  pub was_kept : (n : ℕ) → To n ≡ line_changed fs e c → (breaks (after_line (signed fs) e c) ≡ false) × (n ≡ sum (line_of fs e c)) × (line_left fs e c ≡ line_of fs e c)
+  pub was_kept : (n : ℕ) → Some n ≡ line_changed fs e c → (breaks (after_line (signed fs) e c) ≡ false) × (n ≡ sum (line_of fs e c)) × (line_left fs e c ≡ line_of fs e c)
   unfolding line_changed
   was_kept n p = let k = count_answered (breaks after) (sum (line_of fs e c)) n p in (k.0, k.1, sym (line_kept k.0).1)
 
-  pub was_broken : Broken ≡ line_changed fs e c → breaks (after_line (signed fs) e c) ≡ true
+  pub was_broken : None ≡ line_changed fs e c → breaks (after_line (signed fs) e c) ≡ true
   unfolding line_changed
   was_broken p = broken_answered (breaks after) (sum (line_of fs e c)) p
 
@@ -77,13 +77,13 @@ module _ (fs : List ℕ) (e : ℕ) (c : ℤ) where
         let s : sum fs ≡ get_or fs e 0 + rest = omega (arith, get_d_le_sum fs e) in
         ap (λ (k : ℕ). pos k +ℤ c) s ∙ change_moved (get_or fs e 0) rest n c p
 
-    pub frequency_broken : Broken ≡ changed_by (get_or fs e 0) c → breaks (after_line (signed fs) e c) ≡ true
+    pub frequency_broken : None ≡ changed_by (get_or fs e 0) c → breaks (after_line (signed fs) e c) ≡ true
     frequency_broken p =
         ⊎_elim frequency_below
         (λ t. let a = above_is (pos (get_or fs e 0) +ℤ c) t in sum_above (a.0 + rest) (sum_moves a.0 a.1) (omega (arith, a.2)))
         (broken_is (pos (get_or fs e 0) +ℤ c) (sym p))
 
-    pub sum_broken : (n : ℕ) → To n ≡ changed_by (get_or fs e 0) c → Broken ≡ changed_by (sum fs) c → breaks (after_line (signed fs) e c) ≡ true
+    pub sum_broken : (n : ℕ) → Some n ≡ changed_by (get_or fs e 0) c → None ≡ changed_by (sum fs) c → breaks (after_line (signed fs) e c) ≡ true
     sum_broken n f p =
         let moved = sum_moves n (to_is (pos (get_or fs e 0) +ℤ c) n (sym f)).0 in
         ⊎_elim
@@ -91,7 +91,7 @@ module _ (fs : List ℕ) (e : ℕ) (c : ℤ) where
         (λ t. let a = above_is (pos (sum fs) +ℤ c) t in sum_above a.0 a.1 a.2)
         (broken_is (pos (sum fs) +ℤ c) (sym p))
 
-    module _ (n m : ℕ) (f : To n ≡ changed_by (get_or fs e 0) c) (s : To m ≡ changed_by (sum fs) c) where
+    module _ (n m : ℕ) (f : Some n ≡ changed_by (get_or fs e 0) c) (s : Some m ≡ changed_by (sum fs) c) where
       is_set : after ≡ signed (set fs e n)
       is_set =
           ap (λ (z : ℤ). set (signed fs) e z) (ap (λ (z : ℤ). z +ℤ c) (signed_at fs e) ∙ (to_is (pos (get_or fs e 0) +ℤ c) n (sym f)).0)
@@ -103,7 +103,7 @@ module _ (fs : List ℕ) (e : ℕ) (c : ℤ) where
       new_list : line_of fs e c ≡ set fs e n
       new_list = ap unsigned is_set ∙ unsigned_signed (set fs e n)
 
-      pub both_within : (To m ≡ line_changed fs e c) × (set fs e n ≡ line_left fs e c)
+      pub both_within : (Some m ≡ line_changed fs e c) × (set fs e n ≡ line_left fs e c)
       both_within =
           let k = line_kept (ap breaks is_set ∙ signed_kept (set fs e n) (omega (arith, new_sum, (to_is (pos (sum fs) +ℤ c) m (sym s)).1))) in
-          (ap To (new_sum ∙ ap sum (sym new_list)) ∙ k.0, sym new_list ∙ k.1)
+          (ap Some (new_sum ∙ ap sum (sym new_list)) ∙ k.0, sym new_list ∙ k.1)

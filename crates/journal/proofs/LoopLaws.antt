@@ -15,7 +15,7 @@ use Rattle.journal_rules.specs.Lines.{signed, unsigned, entry_at, change_at, aft
 use Rattle.journal_rules.specs.Replaying.{breaks, breaks_after, bound_fault, after_all}
 use Rattle.journal_rules.proofs.SignedLaws.{signed_length, unsigned_signed}
 use Rattle.journal_rules.proofs.LinesLaws.{after_none, after_next, after_long, kept_signed}
-use Rattle.journal.specs.declared.lines.Changed.TheVariants.{To, Broken}
+use Rattle.std.specs.Prelude.{None, Some}
 use Rattle.journal.specs.Private.Changing.{line_of, line_changed, line_left, lines_changed, LinesLeft}
 use Rattle.journal.proofs.LineLaws.{was_kept, was_broken}
 
@@ -37,7 +37,7 @@ module _ (fs es : List ℕ) (cs : List ℤ) where
     line_is : after_line (signed now) (entry_at es i) (change_at cs i) ≡ after_lines (signed fs) es cs (suc i)
     line_is = ap (λ (zs : List ℤ). after_line zs (entry_at es i) (change_at cs i)) r.so_far ∙ sym (after_next (signed fs) es cs i)
 
-    pub one_replayed : (n : ℕ) (next : List ℕ) → To n ≡ line_changed now (entry_at es i) (change_at cs i) → next ≡ line_left now (entry_at es i) (change_at cs i)
+    pub one_replayed : (n : ℕ) (next : List ℕ) → Some n ≡ line_changed now (entry_at es i) (change_at cs i) → next ≡ line_left now (entry_at es i) (change_at cs i)
         → SoFar fs es cs next n (i + 1)
     one_replayed n next p q =
         let w = was_kept now (entry_at es i) (change_at cs i) n p in
@@ -52,18 +52,18 @@ module _ (fs es : List ℕ) (cs : List ℤ) where
           summed = w.1 ∙ ap sum (sym is_next);
         }
 
-    pub replaying_broken : Broken ≡ line_changed now (entry_at es i) (change_at cs i) → bound_fault fs es cs ≡ true
+    pub replaying_broken : None ≡ line_changed now (entry_at es i) (change_at cs i) → bound_fault fs es cs ≡ true
     unfolding bound_fault
     replaying_broken p = sym (some_found (length cs) (breaks_after fs es cs) i before (ap breaks (sym line_is) ∙ was_broken now (entry_at es i) (change_at cs i) p))
 
-  pub lines_broken : (left : List ℕ) → bound_fault fs es cs ≡ true → (Broken ≡ lines_changed fs es cs) × LinesLeft fs es cs left
+  pub lines_broken : (left : List ℕ) → bound_fault fs es cs ≡ true → (None ≡ lines_changed fs es cs) × LinesLeft fs es cs left
   unfolding lines_changed
-  lines_broken left t = (chosen (bound_fault fs es cs) Broken (To (sum (after_all fs es cs))) t, record { unbroken = λ f. absurd (true_not_false t f) })
+  lines_broken left t = (chosen (bound_fault fs es cs) None (Some (sum (after_all fs es cs))) t, record { unbroken = λ f. absurd (true_not_false t f) })
 
-  pub all_replayed : (now : List ℕ) (s i : ℕ) → SoFar fs es cs now s i → length cs ≤ i → (To s ≡ lines_changed fs es cs) × LinesLeft fs es cs now
+  pub all_replayed : (now : List ℕ) (s i : ℕ) → SoFar fs es cs now s i → length cs ≤ i → (Some s ≡ lines_changed fs es cs) × LinesLeft fs es cs now
   unfolding bound_fault lines_changed
   all_replayed now s i r h =
       let done : i ≡ length cs = omega (arith, r.kept.within) in
       let now_is : now ≡ after_all fs es cs = sym (unsigned_signed now) ∙ ap unsigned (r.so_far ∙ ap (after_lines (signed fs) es cs) done) in
       let f = none_found (length cs) (breaks_after fs es cs) i h r.kept in
-      (ap To (r.summed ∙ ap sum now_is) ∙ not_chosen (bound_fault fs es cs) Broken (To (sum (after_all fs es cs))) (sym f), record { unbroken = λ _. now_is })
+      (ap Some (r.summed ∙ ap sum now_is) ∙ not_chosen (bound_fault fs es cs) None (Some (sum (after_all fs es cs))) (sym f), record { unbroken = λ _. now_is })

@@ -18,10 +18,10 @@ use Rattle.list_rules.specs.Limits.{max_entries}
 use Rattle.list_rules.specs.Frequencies.{entries_fault, list_sentences, list_fault}
 use Rattle.journal_rules.specs.Replaying.{lines_fault, outside_fault, bound_fault, journal_sentences, replay_fault, after_all, replayed, replay_reply}
 use Rattle.journal_rules.proofs.ReplayLaws.{sum_within, bound_refused, none_refused, replay_refused, replay_answered, same_lines}
-use Rattle.laws.proofs.ReplyLaws.{refused_case}
-use Rattle.journal.specs.declared.Replayed.TheVariants.{Sum, Refused}
-use Rattle.journal.specs.Replayed.{replayed_of}
-use Rattle.journal.specs.declared.lines.Changed.TheVariants.{To, Broken}
+use Rattle.refusals.specs.declared.Refusal.{Refusal}
+use Rattle.refusals.specs.Numbers.{number_of}
+use Rattle.refusals.proofs.NumberLaws as numbers
+use Rattle.std.specs.Prelude.{None, Some}
 use Rattle.journal.specs.Private.Testing.{earlier_sentences, Tested}
 use Rattle.journal.specs.Private.Changing.{lines_changed}
 use Rattle.journal.proofs.CountLaws.{count_answered, broken_answered}
@@ -33,23 +33,23 @@ module _ (fs es : List ℕ) (cs : List ℤ) where
   earlier_refused h = append_refused (earlier_sentences fs es cs) (drop 2 (journal_sentences fs es cs)) refl h
 
   -- the list's own sentences come first
-  pub list_refused : (list_fault fs ≡ 0 → ⊥) → list_fault fs ≡ refusal (earlier_sentences fs es cs)
+  pub list_refused : (e : Refusal) → number_of e ≡ list_fault fs → number_of e ≡ refusal (earlier_sentences fs es cs)
   unfolding numbered
-  list_refused h = sym (append_refused (list_sentences fs) (drop 2 (earlier_sentences fs es cs)) refl h)
+  list_refused e p =
+      p ∙ sym (append_refused (list_sentences fs) (drop 2 (earlier_sentences fs es cs)) refl (λ z. omega (arith, numbers.numbered e, p, z)))
 
   -- where one of those before 27 is true, that is the refusal, and the list stays
-  module _ (n : ℕ) (e : n ≡ refusal (earlier_sentences fs es cs)) (z : n ≡ 0 → ⊥) where
-    earlier : (refused n ≡ replay_reply fs es cs) × (fs ≡ replayed fs es cs)
-    earlier = replay_refused fs es cs n (e ∙ sym (earlier_refused (λ p. z (e ∙ p)))) z
+  module _ (e : Refusal) (p : number_of e ≡ refusal (earlier_sentences fs es cs)) where
+    earlier : (refused (number_of e) ≡ replay_reply fs es cs) × (fs ≡ replayed fs es cs)
+    earlier =
+        let z : number_of e ≡ 0 → ⊥ = λ q. omega (arith, numbers.numbered e, q) in
+        replay_refused fs es cs (number_of e) (p ∙ sym (earlier_refused (λ q. z (p ∙ q)))) z
 
-    pub refused_reply : refused n ≡ replay_reply fs es cs
+    pub refused_reply : refused (number_of e) ≡ replay_reply fs es cs
     refused_reply = earlier.0
 
-    pub refused_of : Refused n ≡ replayed_of (replay_reply fs es cs)
-    refused_of = (refused_case Sum Refused n (replay_reply fs es cs) z earlier.0).1
-
-  pub refused_list : (refusal (earlier_sentences fs es cs) ≡ 0 → ⊥) → fs ≡ replayed fs es cs
-  refused_list z = let p = earlier (refusal (earlier_sentences fs es cs)) refl z in p.1
+    pub refused_list : fs ≡ replayed fs es cs
+    refused_list = earlier.1
 
   module _ (tested : Tested fs es cs) where
     pub tested_list : list_fault fs ≡ 0
@@ -73,13 +73,13 @@ module _ (fs es : List ℕ) (cs : List ℤ) where
     unfolding numbered entries_fault
     tested_room = (within 1 max_entries (length fs) (not-false _ (none_true (earlier_sentences fs es cs) refl tested).0)).most
 
-    pub replay_broken : Broken ≡ lines_changed fs es cs → (refused 27 ≡ replay_reply fs es cs) × (fs ≡ replayed fs es cs)
+    pub replay_broken : None ≡ lines_changed fs es cs → (refused 27 ≡ replay_reply fs es cs) × (fs ≡ replayed fs es cs)
     unfolding lines_changed
     replay_broken p =
         let t = broken_answered (bound_fault fs es cs) (sum (after_all fs es cs)) p in
         replay_refused fs es cs 27 (sym (bound_refused fs es cs tested_list lines_and_entries.0 tested_inside t)) (λ z. omega arith)
 
-    module _ (n : ℕ) (p : To n ≡ lines_changed fs es cs) where
+    module _ (n : ℕ) (p : Some n ≡ lines_changed fs es cs) where
       kept_and_sum : (bound_fault fs es cs ≡ false) × (n ≡ sum (after_all fs es cs))
       unfolding lines_changed
       kept_and_sum = count_answered (bound_fault fs es cs) (sum (after_all fs es cs)) n p

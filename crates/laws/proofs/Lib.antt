@@ -12,3 +12,5 @@ pub mod FieldLaws
 pub mod GreatestLaws
 pub mod Filled
 pub mod SetsLaws
+pub mod SomeLaws
+pub mod AnyLaws

@@ -1,19 +1,12 @@
--- Which case of an enum a reply is (`case_of` of specs/Reply.antt), beside the reply itself; and a reply beside the lent list that it leaves.
+-- The reply of a call that is refused or answers, and the lent list that it leaves.
 -- Assumes nothing.
-use mathlib.Core.Path.{◌≡◌, sym, ap, ◌∙◌}
-use mathlib.Core.Bool.{Bool, cond}
+use mathlib.Core.Path.{◌≡◌, ap, ◌∙◌}
+use mathlib.Core.Bool.{cond}
 use mathlib.Core.List.{List}
 use Prim.Native.Nat.{ℕ}
 use borrow.Author.Tests.{eq-eqb, ne_eqb}
 use lib.Dec.{eqb}
-use Rattle.laws.specs.Reply.{Reply, answered, refused, case_of}
-
-module _ {A : Type 0} (value refusal : ℕ → A) (n : ℕ) (r : Reply) where
-  pub answered_case : answered n ≡ r → (answered n ≡ r) × (value n ≡ case_of value refusal r)
-  answered_case e = (e, ap (case_of value refusal) e)
-
-  pub refused_case : (n ≡ 0 → ⊥) → refused n ≡ r → (refused n ≡ r) × (refusal n ≡ case_of value refusal r)
-  refused_case z e = (e, sym (ap (λ (t : Bool). cond t (value 0) (refusal n)) (ne_eqb n 0 z)) ∙ ap (case_of value refusal) e)
+use Rattle.laws.specs.Reply.{answered, refused}
 
 -- a call that answers v where there is no fault, and else is refused
 module _ (fault v : ℕ) where

@@ -9,7 +9,14 @@ use native.Mathlib.Numerals.{add-one}
 use native.Mathlib.Omega.{arith}
 use lib.ListN.{length, get_or, take, drop}
 use lib.Seq.{take_all, take-nil, take-add, drop-drop, get_or-drop}
+use Rattle.std.specs.Prelude.{sum_by}
+use Rattle.std.proofs.lemmas.List.Sums.{sum_by-cons}
 use Rattle.laws.specs.Sums.{sum, prefix_sum, part_sum}
+
+-- the library's sum, as an iterator ends in it
+pub sum_is_by : (xs : List ℕ) → sum_by (λ (n : ℕ). n) xs ≡ sum xs
+sum_is_by [] = refl
+sum_is_by (x ∷ xs) = sum_by-cons (λ (n : ℕ). n) x xs ∙ ap (λ (n : ℕ). x + n) (sum_is_by xs)
 
 pub sum_append : (xs ys : List ℕ) → sum (xs ++ ys) ≡ sum xs + sum ys
 sum_append [] ys = omega arith

@@ -1,7 +1,9 @@
 -- The number and the values of each exported struct.
 -- Assumes nothing.
-use Rattle.std.specs.Prelude.{cond}
+use Rattle.std.specs.Prelude.{◌≡◌, ℕ, cond, Result, Ok, Err}
 use Rattle.laws.specs.Reply.{Reply}
+use Rattle.refusals.specs.declared.Refusal.{Refusal}
+use Rattle.refusals.specs.Numbers.{number_of}
 use Rattle.check_rules.specs.Reply.{Answer}
 use Rattle.qh.specs.declared.QhCoded.{QhCoded}
 use Rattle.qh.specs.declared.QhBuilt.{QhBuilt}
@@ -11,6 +13,11 @@ use Rattle.qh.specs.declared.QhFilled.{QhFilled}
 use Rattle.qh.specs.declared.QhAnswered.{QhAnswered}
 use Rattle.qh.specs.declared.QhFound.{QhFound}
 use Rattle.qh.specs.declared.QhReplayed.{QhReplayed}
+
+-- the number and the value of an answer: beside a refusal the value that is none
+abbrev pub PartsOf : {T : Type 0} → Result T Refusal → (T → Type 0) → ℕ × T → Type 0
+PartsOf (Ok v) None r = r ≡ (0, v)
+PartsOf (Err e) None r = (r.0 ≡ number_of e) × None r.1
 
 abbrev pub coded_out : QhCoded → Reply
 coded_out r = record { refusal = r.refusal; value = r.value }

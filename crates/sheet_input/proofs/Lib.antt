@@ -1,2 +1,3 @@
-pub mod ScanLaws
+pub mod NumberLaws
+pub mod LineLaws
 pub mod ReadLaws

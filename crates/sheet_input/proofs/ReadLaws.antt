@@ -5,8 +5,9 @@ use mathlib.Core.Bool.{Bool, true, false, cond}
 use mathlib.Core.List.{List, [], ◌∷◌, ◌++◌, append-nil}
 use Prim.Native.Nat.{ℕ, suc, ◌+◌, ◌-◌, ◌≤◌, ◌<◌}
 use native.Mathlib.Omega.{arith}
-use lib.ListN.{length, take, drop, set, length-set, length-append, length-drop, length-replicate, drop_of_length-le}
+use lib.ListN.{length, take, drop, set, length-set, length-append, length-replicate}
 use lib.Seq.{take-suc-set, append_snoc, length-take-le}
+use Rattle.std.specs.Prelude.{Result, Ok, Err}
 use Rattle.laws.specs.Padded.{zeros}
 use Rattle.laws.proofs.PaddedLaws.{zeros_after, is_padded}
 use Rattle.laws.proofs.Tests.{both, fails_left, fails_right, is_false}
@@ -16,32 +17,32 @@ use Rattle.sheet_rules.specs.Limits.{least_numbers, most_numbers}
 use Rattle.std.proofs.lemmas.List.{length-map}
 use Rattle.sheet_rules.specs.Input.{lines, every, value, numeral, all_numerals, numbers, passing, numeral_lines, fault_line, as_described}
 use Rattle.sheet_rules.proofs.InputLaws.{no_numerals}
-use Rattle.sheet_input.specs.declared.Numbers.{Numbers}
+use Rattle.sheet_input.specs.declared.InputFault.{InputFault}
+use Rattle.sheet_input.specs.Private.Held.{Held}
 use Rattle.sheet_input.specs.Private.Lines.{Stepped}
-use Rattle.sheet_input.specs.Numbers.{numbers_of, input_numbers}
+use Rattle.sheet_input.specs.Numbers.{input_numbers}
 
--- n numbers are read, of the bytes before `start`
-pub record Begun (input values : List ℕ) (n start : ℕ) : Type 0 where
-  pub inside : start ≤ length input
+-- n numbers are read, and these bytes are left
+pub record Begun (input values : List ℕ) (n : ℕ) (rest : List ℕ) : Type 0 where
   pub many : n ≤ most_numbers
   pub room : length values ≡ most_numbers
   pub past : drop n values ≡ zeros (most_numbers - n)
-  pub numerals : all_numerals (lines input) ≡ all_numerals (lines (drop start input))
-  pub read : numbers input ≡ take n values ++ numbers (drop start input)
-  pub passed : numeral_lines input ≡ n + numeral_lines (drop start input)
+  pub numerals : all_numerals (lines input) ≡ all_numerals (lines rest)
+  pub read : numbers input ≡ take n values ++ numbers rest
+  pub passed : numeral_lines input ≡ n + numeral_lines rest
 
-pub begun_none : (input : List ℕ) → Begun input (zeros most_numbers) 0 0
+begun_none : (input : List ℕ) → Begun input (zeros most_numbers) 0 input
 begun_none input =
-    record { inside = omega arith; many = omega arith; room = length-replicate {A = ℕ} most_numbers 0; past = refl; numerals = refl; read = refl; passed = omega arith }
+    record { many = omega arith; room = length-replicate {A = ℕ} most_numbers 0; past = refl; numerals = refl; read = refl; passed = omega arith }
 
 -- it is not as described, from a line on
-pub record Fault (input : List ℕ) (line : ℕ) : Type 0 where
-  pub not_described : as_described input ≡ false
-  pub from : line ≡ fault_line input
+record Fault (input : List ℕ) (line : ℕ) : Type 0 where
+  not_described : as_described input ≡ false
+  from : line ≡ fault_line input
 
-not_described : (input : List ℕ) → between least_numbers most_numbers (length (numbers input)) ≡ false → as_described input ≡ false
+many_fault : (input : List ℕ) → between least_numbers most_numbers (length (numbers input)) ≡ false → as_described input ≡ false
 unfolding as_described
-not_described input h = fails_right (all_numerals (lines input)) (between least_numbers most_numbers (length (numbers input))) h
+many_fault input h = fails_right (all_numerals (lines input)) (between least_numbers most_numbers (length (numbers input))) h
 
 passing_few : {A : Type 0} (p : A → Bool) (l : List A) → passing p l ≤ length l
 unfolding passing
@@ -57,14 +58,27 @@ lines_numbers : (input : List ℕ) → numeral_lines input ≤ length (numbers i
 unfolding numbers
 lines_numbers input = omega (arith, passing_few numeral (lines input).ended, length-map (lines input).ended value)
 
-module _ (input values : List ℕ) (n start : ℕ) (b : Begun input values n start) where
+-- what is answered
+
+abbrev read_as : List ℕ → Result (List ℕ) InputFault
+read_as ns = Ok ns
+
+abbrev fault_at : ℕ → Result (List ℕ) InputFault
+fault_at line = Err (record { line = line })
+
+faulty : (input : List ℕ) (line : ℕ) → Fault input line → Err (record { line = line }) ≡ input_numbers input
+unfolding input_numbers
+faulty input line f =
+    ap fault_at f.from
+    ∙ ap (λ (t : Bool). cond t (Ok (numbers input)) (Err (record { line = fault_line input }))) (sym f.not_described)
+
+module _ (input values : List ℕ) (n : ℕ) (rest : List ℕ) (b : Begun input values n rest) where
   taken : length (take n values) ≡ n
   taken = length-take-le n values (omega (arith, b.many, b.room))
 
-  pub begun_more : (v next : ℕ) → n < most_numbers → Stepped input start v next → Begun input (set values n v) (suc n) next
+  begun_more : (v : ℕ) (next : List ℕ) → n < most_numbers → Stepped rest v next → Begun input (set values n v) (suc n) next
   begun_more v next h s =
       record {
-        inside = s.inside;
         many = h;
         room = length-set values n v ∙ b.room;
         past = zeros_after most_numbers n v values b.past;
@@ -72,36 +86,39 @@ module _ (input values : List ℕ) (n start : ℕ) (b : Begun input values n sta
         read =
             b.read
             ∙ ap (λ (l : List ℕ). take n values ++ l) s.values
-            ∙ sym (append_snoc (take n values) v (numbers (drop next input)))
-            ∙ ap (λ (l : List ℕ). l ++ numbers (drop next input)) (sym (take-suc-set values n v (omega (arith, b.room))));
+            ∙ sym (append_snoc (take n values) v (numbers next))
+            ∙ ap (λ (l : List ℕ). l ++ numbers next) (sym (take-suc-set values n v (omega (arith, b.room))));
         passed = omega (arith, b.passed, s.passed);
       }
 
-  pub broken_line : start < length input → numeral_lines (drop start input) ≡ 0 → Fault input (n + 1)
+  broken_line : 0 < length rest → numeral_lines rest ≡ 0 → Fault input (n + 1)
   unfolding as_described
   broken_line h z =
       record {
         not_described =
-            fails_left (all_numerals (lines input)) (between least_numbers most_numbers (length (numbers input)))
-            (b.numerals ∙ no_numerals (drop start input) (omega (arith, length-drop start input)) z);
+            fails_left (all_numerals (lines input)) (between least_numbers most_numbers (length (numbers input))) (b.numerals ∙ no_numerals rest h z);
         from = omega (arith, b.passed, b.many, z);
       }
 
-  pub too_many : n ≡ most_numbers → 0 < numeral_lines (drop start input) → Fault input (n + 1)
+  too_many : n ≡ most_numbers → 0 < numeral_lines rest → Fault input (n + 1)
   too_many h m =
-      let all : length (numbers input) ≡ n + length (numbers (drop start input)) =
-      ap length b.read ∙ length-append (take n values) (numbers (drop start input)) ∙ ap (λ (k : ℕ). k + length (numbers (drop start input))) taken in
-      let more : most_numbers < length (numbers input) = omega (arith, all, h, lines_numbers (drop start input), m) in
+      let all : length (numbers input) ≡ n + length (numbers rest) =
+      ap length b.read ∙ length-append (take n values) (numbers rest) ∙ ap (λ (k : ℕ). k + length (numbers rest)) taken in
+      let more : most_numbers < length (numbers input) = omega (arith, all, h, lines_numbers rest, m) in
       record {
         not_described =
-            not_described input
+            many_fault input
             (is_false (between least_numbers most_numbers (length (numbers input))) (λ t. omega (arith, (within least_numbers most_numbers (length (numbers input)) t).most, more)));
         from = omega (arith, b.passed, h);
       }
 
-  module _ (end : length input ≤ start) where
-    nothing : drop start input ≡ []
-    nothing = drop_of_length-le input {i = start} end
+  module _ (end : length rest ≡ 0) where
+    nothing : rest ≡ []
+    nothing = is_nil rest end
+      where
+        is_nil : (l : List ℕ) → length l ≡ 0 → l ≡ []
+        is_nil [] e = refl
+        is_nil (x ∷ xs) e = absurd (omega (arith, e))
 
     numbers_are : numbers input ≡ take n values
     unfolding numbers lines
@@ -110,14 +127,14 @@ module _ (input values : List ℕ) (n start : ℕ) (b : Begun input values n sta
     how_many : length (numbers input) ≡ n
     how_many = ap length numbers_are ∙ taken
 
-    pub too_few : n < least_numbers → Fault input (n + 1)
+    too_few : n < least_numbers → Fault input (n + 1)
     unfolding lines passing
     too_few h =
         record {
           not_described =
-              not_described input
+              many_fault input
               (is_false (between least_numbers most_numbers (length (numbers input))) (λ t. omega (arith, (within least_numbers most_numbers (length (numbers input)) t).least, how_many)));
-          from = let none : numeral_lines (drop start input) ≡ 0 = ap numeral_lines nothing in omega (arith, b.passed, b.many, none);
+          from = let none : numeral_lines rest ≡ 0 = ap numeral_lines nothing in omega (arith, b.passed, b.many, none);
         }
 
     described : least_numbers ≤ n → as_described input ≡ true
@@ -127,49 +144,43 @@ module _ (input values : List ℕ) (n start : ℕ) (b : Begun input values n sta
         (b.numerals ∙ ap (λ (l : List ℕ). all_numerals (lines l)) nothing)
         (is_within least_numbers most_numbers (length (numbers input)) (record { least = omega (arith, how_many); most = omega (arith, how_many, b.many) }))
 
-    pub all_read : least_numbers ≤ n → record { refusal = 0; line = 0; count = n; values = values } ≡ input_numbers input
+    all_read : least_numbers ≤ n → Ok (take n values) ≡ input_numbers input
     unfolding input_numbers
     all_read h =
-        ap (λ (k : ℕ). answer k values) (sym how_many)
-        ∙ ap (answer (length (numbers input))) (is_padded most_numbers n values (numbers input) (sym numbers_are) how_many b.past)
-        ∙ ap (λ (t : Bool). cond t (numbers_of 0 0 (numbers input)) (numbers_of 18 (fault_line input) [])) (sym (described h))
-      where
-        answer : ℕ → List ℕ → Numbers
-        answer k l = record { refusal = 0; line = 0; count = k; values = l }
+        ap read_as (sym numbers_are)
+        ∙ ap (λ (t : Bool). cond t (Ok (numbers input)) (Err (record { line = fault_line input }))) (sym (described h))
 
-pub refused_numbers : (input : List ℕ) (r : Numbers) (line : ℕ) → r ≡ numbers_of 18 line [] → Fault input line → r ≡ input_numbers input
-unfolding input_numbers
-refused_numbers input r line e f =
-    e
-    ∙ ap (λ (k : ℕ). numbers_of 18 k []) f.from
-    ∙ ap (λ (t : Bool). cond t (numbers_of 0 0 (numbers input)) (numbers_of 18 (fault_line input) [])) (sym f.not_described)
+    all_held : least_numbers ≤ n → Held values n
+    all_held h = record { least = h; most = b.many; front = taken; all = sym (is_padded most_numbers n values (take n values) refl taken b.past) }
 
 -- ---- what the reading comes to, as a reader of the lines asks
 
 -- the numbers in hand, and for each case of what follows what is answered
-pub record Reading (input values : List ℕ) (n start : ℕ) : Type 0 where
-  pub begun : Begun input values n start
-  pub if_broken : start < length input → numeral_lines (drop start input) ≡ 0 → numbers_of 18 (n + 1) [] ≡ input_numbers input
-  pub if_too_many : n ≡ most_numbers → 0 < numeral_lines (drop start input) → numbers_of 18 (n + 1) [] ≡ input_numbers input
-  pub if_too_few : length input ≤ start → n < least_numbers → numbers_of 18 (n + 1) [] ≡ input_numbers input
-  pub if_all : length input ≤ start → least_numbers ≤ n → record { refusal = 0; line = 0; count = n; values = values } ≡ input_numbers input
+pub record Reading (input values : List ℕ) (n : ℕ) (rest : List ℕ) : Type 0 where
+  pub begun : Begun input values n rest
+  pub if_broken : 0 < length rest → numeral_lines rest ≡ 0 → Err (record { line = n + 1 }) ≡ input_numbers input
+  pub if_too_many : n ≡ most_numbers → 0 < numeral_lines rest → Err (record { line = n + 1 }) ≡ input_numbers input
+  pub if_too_few : length rest ≡ 0 → n < least_numbers → Err (record { line = n + 1 }) ≡ input_numbers input
+  pub if_all : length rest ≡ 0 → least_numbers ≤ n → Ok (take n values) ≡ input_numbers input
+  pub if_held : length rest ≡ 0 → least_numbers ≤ n → Held values n
 
-reading : (input values : List ℕ) (n start : ℕ) → Begun input values n start → Reading input values n start
-reading input values n start b =
+reading : (input values : List ℕ) (n : ℕ) (rest : List ℕ) → Begun input values n rest → Reading input values n rest
+reading input values n rest b =
     record {
       begun = b;
-      if_broken = λ h z. refused_numbers input (numbers_of 18 (n + 1) []) (n + 1) refl (broken_line input values n start b h z);
-      if_too_many = λ h m. refused_numbers input (numbers_of 18 (n + 1) []) (n + 1) refl (too_many input values n start b h m);
-      if_too_few = λ h f. refused_numbers input (numbers_of 18 (n + 1) []) (n + 1) refl (too_few input values n start b h f);
-      if_all = λ h l. all_read input values n start b h l;
+      if_broken = λ h z. faulty input (n + 1) (broken_line input values n rest b h z);
+      if_too_many = λ h m. faulty input (n + 1) (too_many input values n rest b h m);
+      if_too_few = λ h f. faulty input (n + 1) (too_few input values n rest b h f);
+      if_all = λ h l. all_read input values n rest b h l;
+      if_held = λ h l. all_held input values n rest b h l;
     }
 
-pub reading_none : (input : List ℕ) → Reading input (zeros most_numbers) 0 0
-reading_none input = reading input (zeros most_numbers) 0 0 (begun_none input)
+pub reading_none : (input : List ℕ) → Reading input (zeros most_numbers) 0 input
+reading_none input = reading input (zeros most_numbers) 0 input (begun_none input)
 
 -- a line more
-pub reading_more : (input values : List ℕ) (n start v next : ℕ) → Reading input values n start → n < most_numbers → Stepped input start v next
+pub reading_more : (input values : List ℕ) (n : ℕ) (rest : List ℕ) (v : ℕ) (next : List ℕ) → Reading input values n rest → n < most_numbers → Stepped rest v next
     → Reading input (set values n v) (n + 1) next
-reading_more input values n start v next r h s =
+reading_more input values n rest v next r h s =
     let more : n + 1 ≡ suc n = omega arith in
-    reading input (set values n v) (n + 1) next (subst⁻¹ (λ (k : ℕ). Begun input (set values n v) k next) more (begun_more input values n start r.begun v next h s))
+    reading input (set values n v) (n + 1) next (subst⁻¹ (λ (k : ℕ). Begun input (set values n v) k next) more (begun_more input values n rest r.begun v next h s))

@@ -1,14 +1,9 @@
--- What is read of an input: the refusal's number and the line at fault, or 0 and 0; how many numbers there are, and the numbers, with 0 after them.
+-- What is read of an input.
 -- Assumes nothing.
-use Rattle.std.specs.Prelude.{cond, List, [], ℕ, length}
-use Rattle.laws.specs.Padded.{padded}
-use Rattle.sheet_rules.specs.Limits.{most_numbers}
+use Rattle.std.specs.Prelude.{cond, List, ℕ, Result, Ok, Err}
 use Rattle.sheet_rules.specs.Input.{as_described, numbers, fault_line}
-use Rattle.sheet_input.specs.declared.Numbers.{Numbers}
+use Rattle.sheet_input.specs.declared.InputFault.{InputFault}
 
-abbrev pub numbers_of : ℕ → ℕ → List ℕ → Numbers
-numbers_of refusal line ns = record { refusal = refusal; line = line; count = length ns; values = padded most_numbers ns }
-
--- 18 for an input that is not as described
-unfoldable pub input_numbers : List ℕ → Numbers
-input_numbers input = cond (as_described input) (numbers_of 0 0 (numbers input)) (numbers_of 18 (fault_line input) [])
+-- its numbers, or where it stops being as described
+unfoldable pub input_numbers : List ℕ → Result (List ℕ) InputFault
+input_numbers input = cond (as_described input) (Ok (numbers input)) (Err (record { line = fault_line input }))

@@ -1,64 +1,54 @@
 // One line of the input.
 
-ghost use Rattle.std.specs.Prelude.{◌≡◌, ◌&&◌, ◌+◌, ◌-◌, ◌*◌, ◌^◌, ◌≤◌, ◌<◌, ltb, eqb, length, get_or};
-ghost use Rattle.sheet_rules.specs.Input.{digit};
-ghost use Rattle.sheet_input.specs.Private.Lines.{LineAt};
+ghost use Rattle.std.specs.Prelude.{◌≡◌, ◌+◌, ◌-◌, ◌*◌, eqb};
+ghost use Rattle.std.specs.List.{position};
+ghost use Rattle.sheet_rules.specs.Input.{line_feed, leading_zero};
+ghost use Rattle.sheet_input.specs.Private.Lines.{small_number, number_of, FirstNumber};
 
-// Its number and where the next line starts, or that it is no number or is not ended.
-#[derive(Clone, Copy)]
-pub(crate) enum Line {
-    Number(u32, usize),
-    Broken,
-}
-
-fn is_digit(c: u8) -> bool
-    ensures { result ≡ digit c }
+// A number with one digit more, if the byte is a digit and the number below 2^32.
+fn with_digit(number: u32, byte: u8) -> Option<u32>
+    ensures { result ≡ small_number byte (10 * number + (byte - 48)) }
 {
-    if c < 48 { false } else { c <= 57 }
-}
-
-// Whether a line that goes on to i begins with a zero.
-fn is_zero_led(input: &[u8], start: usize, i: usize) -> bool
-    requires { i ≤ length input.now }
-    ensures { result ≡ (ltb start i && eqb (get_or input.now start 0) 48) }
-{
-    if start < i { input[start] == 48 } else { false }
-}
-
-// The number with one digit more.
-fn with_digit(value: u64, c: u8) -> u64
-    requires { (value < 2 ^ 32) × (48 ≤ c) }
-    ensures { result ≡ 10 * value + (c - 48) }
-{
-    10 * value + (c - 48) as u64
-}
-
-// A line is read digit by digit, and is broken at the first byte with which it can be no number any more.
-pub(crate) fn line_at(input: &[u8], start: usize) -> Line
-    requires { start < length input.now }
-    ensures { LineAt input.now start result }
-{
-    let mut value: u64 = 0;
-    let mut i = start;
-    while i < input.len() {
-        let c = input[i];
-        if c == 10 {
-            if i == start {
-                return Line::Broken;
-            }
-            return Line::Number(value as u32, i + 1);
-        }
-        if !is_digit(c) {
-            return Line::Broken;
-        }
-        if is_zero_led(input, start, i) {
-            return Line::Broken;
-        }
-        value = with_digit(value, c);
-        if 4294967295 < value {
-            return Line::Broken;
-        }
-        i += 1;
+    if !byte.is_ascii_digit() {
+        return None;
     }
-    Line::Broken
+    number.checked_mul(10)?.checked_add(u32::from(byte - b'0'))
+}
+
+fn is_zero_led(line: &[u8]) -> bool
+    ensures { result ≡ leading_zero line.now }
+{
+    line.len() > 1 && line[0] == b'0'
+}
+
+// The number that a line is, without its line feed.
+#[tactic(auto, using(crate::proofs::NumberLaws::no_bytes, crate::proofs::NumberLaws::zero_led, crate::proofs::NumberLaws::read_is))]
+fn number_of(line: &[u8]) -> Option<u32>
+    ensures { result ≡ number_of line.now }
+{
+    if line.is_empty() || is_zero_led(line) {
+        return None;
+    }
+    let mut number: u32 = 0;
+    for byte in line {
+        number = with_digit(number, *byte)?;
+    }
+    Some(number)
+}
+
+// Where the first line ends.
+fn line_end(input: &[u8]) -> Option<usize>
+    ensures { result ≡ position (λ c. eqb c line_feed) input.now }
+{
+    input.iter().position(|byte| *byte == b'\n')
+}
+
+// The number of the first line, and what follows its line feed; none if it is no number or has no line feed.
+#[tactic(auto, using(crate::proofs::LineLaws::no_end, crate::proofs::LineLaws::broken_line, crate::proofs::LineLaws::number_line))]
+pub(crate) fn first_number(input: &[u8]) -> Option<(u32, &[u8])>
+    ensures { FirstNumber input.now result }
+{
+    let end = line_end(input)?;
+    let number = number_of(&input[..end])?;
+    Some((number, &input[end + 1..]))
 }

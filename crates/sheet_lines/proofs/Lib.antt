@@ -1,3 +1,3 @@
-pub mod CountLaws
-pub mod PutLaws
+pub mod DigitLaws
+pub mod HeldLaws
 pub mod PatternLaws

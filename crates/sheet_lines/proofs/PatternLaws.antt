@@ -2,21 +2,17 @@
 -- Assumes nothing.
 use mathlib.Core.Path.{◌≡◌, refl, sym, ap, ◌∙◌}
 use mathlib.Core.Bool.{Bool, cond}
-use mathlib.Core.List.{List, [], ◌∷◌, ◌++◌, append_assoc}
+use mathlib.Core.List.{List, [], ◌∷◌, ◌++◌, append_assoc, append-nil}
 use Prim.Native.Nat.{ℕ, ◌+◌, ◌-◌, ◌*◌, ◌≤◌, ◌<◌}
 use native.Mathlib.Numerals.{add-one}
 use native.Mathlib.Omega.{arith}
 use borrow.Author.Tests.{eq-eqb, ne_eqb}
-use lib.ListN.{length, get_or, set, drop, length-append, drop_of_length-le}
-use lib.Seq.{sets, drop-cons}
-use Rattle.laws.specs.Padded.{zeros}
-use Rattle.laws.proofs.SetsLaws.{sets_append}
+use lib.ListN.{length, get_or, drop, length-append, drop_of_length-le}
+use lib.Seq.{drop-cons}
 use Rattle.sheet_rules.specs.Limits.{max_digits, line_bytes}
 use Rattle.sheet_rules.specs.Text.{ascii, decimal}
 use Rattle.sheet_rules.specs.Lines.{labelled, head_line, bucket_line, bucketlet_line, refused_line}
-use Rattle.sheet_lines.specs.Line.{line_of}
 use Rattle.sheet_lines.specs.Private.Pattern.{mark, filled_in}
-use Rattle.sheet_lines.proofs.PutLaws.{line_is}
 
 -- ---- one byte of a pattern
 
@@ -76,63 +72,45 @@ refused_pattern number = refl
 -- ---- a whole pattern
 
 module _ (pattern numbers : List ℕ) where
-  abbrev left : ℕ → ℕ → List ℕ
-  left k i = filled_in (drop i pattern) (drop k numbers)
-
-  -- i bytes of the pattern and k numbers are put, in n bytes
-  pub record Begun (bytes : List ℕ) (n k i : ℕ) : Type 0 where
+  -- i bytes of the pattern are put, and the numbers that are left have no mark yet
+  pub record Begun (line left : List ℕ) (i : ℕ) : Type 0 where
     pub up_to : i ≤ length pattern
-    pub used : k ≤ length numbers
-    pub room : n + (length pattern - i) + (max_digits - 1) * (length numbers - k) ≤ line_bytes
-    pub put : sets bytes n (left k i) ≡ sets (zeros line_bytes) 0 (filled_in pattern numbers)
-    pub ends : n + length (left k i) ≡ length (filled_in pattern numbers)
+    pub room : length line + (length pattern - i) + (max_digits - 1) * length left ≤ line_bytes
+    pub put : line ++ filled_in (drop i pattern) left ≡ filled_in pattern numbers
 
-  pub begun_none : length pattern + (max_digits - 1) * length numbers ≤ line_bytes → Begun (zeros line_bytes) 0 0 0
-  begun_none h = record { up_to = omega arith; used = omega arith; room = omega arith; put = refl; ends = omega arith }
+  pub begun_none : length pattern + (max_digits - 1) * length numbers ≤ line_bytes → (line : List ℕ) → line ≡ [] → Begun line numbers 0
+  begun_none h line e = record { up_to = omega arith; room = omega (arith, h, ap length e); put = ap (λ (l : List ℕ). l ++ filled_in pattern numbers) e }
 
-  module _ (bytes : List ℕ) (n k i : ℕ) (b : Begun bytes n k i) where
+  module _ (line left : List ℕ) (i : ℕ) (b : Begun line left i) (h : i < length pattern) (next rest : List ℕ) where
     -- a number more
-    pub begun_number : i < length pattern → get_or pattern i 0 ≡ mark → k < length numbers
-        → (next : List ℕ) (end more : ℕ) → next ≡ sets bytes n (decimal (get_or numbers k 0)) → end ≡ n + length (decimal (get_or numbers k 0)) → more ≡ k + 1
-        → end ≤ n + max_digits → Begun next end more (i + 1)
-    begun_number h e l next end more p q u m =
+    pub begun_number : get_or pattern i 0 ≡ mark → (n : ℕ) → left ≡ n ∷ rest → next ≡ line ++ decimal n → length next ≤ length line + max_digits → Begun next rest (i + 1)
+    begun_number e n l t m =
         record {
           up_to = omega arith;
-          used = omega arith;
-          room = omega (arith, b.room);
+          room = omega (arith, b.room, m, ap length l);
           put =
-              (λ j. sets (p j) (q j) (left more (i + 1)))
-              ∙ sym (sets_append bytes n (decimal (get_or numbers k 0)) (left more (i + 1)))
-              ∙ ap (sets bytes n) (sym step)
+              ap (λ (k : List ℕ). k ++ filled_in (drop (i + 1) pattern) rest) t
+              ∙ append_assoc line (decimal n) (filled_in (drop (i + 1) pattern) rest)
+              ∙ ap (λ (r : List ℕ). line ++ r)
+              (sym ((λ j. filled_in (drop_next pattern i h j) (l j)) ∙ mark_first (get_or pattern i 0) (drop (i + 1) pattern) n rest e))
               ∙ b.put;
-          ends = omega (arith, q, b.ends, ap length step, length-append (decimal (get_or numbers k 0)) (left more (i + 1)));
         }
-      where
-        step : left k i ≡ decimal (get_or numbers k 0) ++ left more (i + 1)
-        step =
-            (λ j. filled_in (drop_next pattern i h j) (drop_next numbers k l j))
-            ∙ mark_first (get_or pattern i 0) _ _ _ e
-            ∙ ap (λ (x : ℕ). decimal (get_or numbers k 0) ++ left x (i + 1)) (sym u)
 
     -- a byte more
-    pub begun_byte : i < length pattern → (get_or pattern i 0 ≡ mark → length numbers ≤ k)
-        → (next : List ℕ) (end more : ℕ) → next ≡ set bytes n (get_or pattern i 0) → end ≡ n + 1 → more ≡ k → Begun next end more (i + 1)
-    begun_byte h o next end more p q u =
+    pub begun_byte : (get_or pattern i 0 ≡ mark → length left ≡ 0) → next ≡ line ++ get_or pattern i 0 ∷ [] → rest ≡ left → Begun next rest (i + 1)
+    begun_byte o t l =
         record {
           up_to = omega arith;
-          used = omega (arith, b.used);
-          room = omega (arith, b.room);
-          put = (λ j. sets (p j) ((q ∙ add-one n) j) (left (u j) (i + 1))) ∙ ap (sets bytes n) (sym step) ∙ b.put;
-          ends = omega (arith, q, b.ends, ap length step, ap (λ (x : ℕ). length (left x (i + 1))) u);
+          room = omega (arith, b.room, ap length t, length-append line (get_or pattern i 0 ∷ []), ap length l);
+          put =
+              (λ j. t j ++ filled_in (drop (i + 1) pattern) (l j))
+              ∙ append_assoc line (get_or pattern i 0 ∷ []) (filled_in (drop (i + 1) pattern) left)
+              ∙ ap (λ (r : List ℕ). line ++ r)
+              (sym (ap (λ (p : List ℕ). filled_in p left) (drop_next pattern i h) ∙ byte_first (get_or pattern i 0) (drop (i + 1) pattern) left o))
+              ∙ b.put;
         }
-      where
-        step : left k i ≡ get_or pattern i 0 ∷ left k (i + 1)
-        step =
-            ap (λ (l : List ℕ). filled_in l (drop k numbers)) (drop_next pattern i h)
-            ∙ byte_first (get_or pattern i 0) (drop (i + 1) pattern) (drop k numbers) (λ e. ap length (drop_of_length-le numbers {i = k} (o e)))
 
-    pub begun_all : length pattern ≤ i → record { bytes = bytes; length = n } ≡ line_of (filled_in pattern numbers)
-    unfolding filled_in
-    begun_all h =
-        let none : left k i ≡ [] = ap (λ (l : List ℕ). filled_in l (drop k numbers)) (drop_of_length-le pattern {i = i} h) in
-        line_is bytes (filled_in pattern numbers) n (omega (arith, b.room)) (ap (sets bytes n) (sym none) ∙ b.put) (omega (arith, b.ends, ap length none))
+  pub begun_all : (line left : List ℕ) (i : ℕ) → Begun line left i → length pattern ≤ i → line ≡ filled_in pattern numbers
+  unfolding filled_in
+  begun_all line left i b h =
+      sym (append-nil line) ∙ ap (λ (p : List ℕ). line ++ filled_in p left) (sym (drop_of_length-le pattern {i = i} h)) ∙ b.put

@@ -17,7 +17,7 @@ pub const MOST_NUMBERS: usize = 3 + MAX_FREQUENCIES;
 // The longest input's bytes: ten digits and a line feed a line.
 pub const MAX_INPUT: usize = (10 + 1) * MOST_NUMBERS;
 
-// How many words the histogram of the longest list has.
+// How many words the histogram of the longest list has. Not by div_ceil: Rattle takes no call in a constant's value yet.
 pub const MAX_SHEET_WORDS: usize = HEAD_WORDS + BUCKET_WORDS * ((MAX_FREQUENCIES + 7) / 8);
 
 // The bytes that are lent for a line and for a sheet.

@@ -1,37 +1,41 @@
--- Laws of a whole sheet: what the builder answers with room for the longest list's histogram, and what the numbers of an input are.
+-- Laws of a whole sheet: what the builder answers with room for the longest list's histogram, and what is printed of the numbers that are read.
 -- Assumes nothing.
-use mathlib.Core.Path.{◌≡◌, refl, sym, ap, ◌∙◌}
+use mathlib.Core.Path.{◌≡◌, refl, sym, ap, ◌∙◌, subst, subst⁻¹}
 use mathlib.Core.Bool.{Bool, true, false, cond}
 use mathlib.Core.List.{List, [], ◌∷◌, ◌++◌}
 use mathlib.Core.Logic.{⊎_elim}
-use Prim.Native.Nat.{ℕ, zero, suc, ◌+◌, ◌-◌, ◌≤◌, ◌<◌}
-use native.Mathlib.Nat.{zero-add, suc-add}
+use Prim.Native.Nat.{ℕ, ◌≤◌}
 use native.Mathlib.Omega.{arith}
 use borrow.Author.Tests.{eqb-true, eqb-false, eq-eqb, le-ltb}
 use lib.Dec.{eqb, ltb}
 use lib.ListN.{length, get_or, take, drop}
-use lib.Seq.{sets, take_at, take-nil, get_or-take}
+use lib.Seq.{sets, take_at}
+use Rattle.std.specs.Prelude.{Result, Ok, Err, Some, None}
+use Rattle.std.specs.Result.{IsErrAnd}
 use Rattle.laws.specs.Refusal.{Sentence, refusal}
 use Rattle.laws.specs.Reply.{Reply, answered, refused}
-use Rattle.laws.proofs.Tests.{tested, is_false}
-use Rattle.laws.proofs.PaddedLaws.{padded_front}
+use Rattle.laws.proofs.Tests.{tested}
 use Rattle.laws.proofs.RefusalLaws.{numbered, append_refused, append_passed}
+use Rattle.refusals.specs.declared.Refusal.{Refusal}
+use Rattle.refusals.specs.Numbers.{number_of}
+use Rattle.refusals.proofs.Proved.{answers}
 use Rattle.words_rules.proofs.Proved.{histogram}
 use Rattle.build_rules.specs.Words.{words}
 use Rattle.list_rules.specs.Quality.{quality, input_sentences}
 use Rattle.build_rules.specs.Building.{build_sentences, build_fault, build_reply, written}
-use Rattle.sheet_rules.specs.Limits.{max_frequencies, least_numbers, most_numbers, max_sheet_words}
+use Rattle.sheet_rules.specs.Limits.{max_frequencies, max_sheet_words}
 use Rattle.sheet_rules.specs.Input.{as_described, numbers, fault_line}
 use Rattle.sheet_rules.specs.Lines.{refused_line}
-use Rattle.sheet_rules.specs.Sheet.{histogram_sheet, list_sheet, numbers_sheet, sheet_fault, sheet, filled}
+use Rattle.sheet_rules.specs.Sheet.{histogram_sheet, sheet_fault, sheet, filled}
 use Rattle.sheet_rules.specs.Private.Room.{Roomy}
-use Rattle.sheet_rules.proofs.SheetLaws.{room, list_printed, list_refused, sets_filled}
-use Rattle.sheet_rules.proofs.Proved.{sheet_refused, sheet_read, numbers_many, fault_refused, fault_read}
-use Rattle.sheet_input.specs.declared.Numbers.{Numbers}
-use Rattle.sheet_input.specs.Numbers.{numbers_of, input_numbers}
-use Rattle.sheet_text.specs.declared.Printed.{Printed}
-use Rattle.sheet_text.specs.Printed.{printed_of}
-use Rattle.sheet_text.specs.Private.Printing.{Answered}
+use Rattle.sheet_rules.proofs.SheetLaws.{room, sets_filled}
+use Rattle.sheet_rules.proofs.Proved.{exam, sheet_refused, fault_refused, fault_read}
+use Rattle.sheet_input.specs.declared.InputFault.{InputFault}
+use Rattle.sheet_input.specs.Numbers.{input_numbers}
+use Rattle.sheet_text.specs.declared.SheetError.{SheetError}
+use Rattle.sheet_text.specs.declared.SheetError.TheVariants as at
+use Rattle.sheet_text.specs.Printed.{error_number}
+use Rattle.sheet_text.specs.Private.Printing.{Put, Said, Turned, Done, Outcome}
 
 -- ---- the builder's answer
 
@@ -92,16 +96,6 @@ module _ (fs : List ℕ) (theta qn qd : ℕ) (short : length fs ≤ max_frequenc
     pub refused_fault : number ≡ fault
     refused_fault = ap (λ (r : Reply). r.refusal) e ∙ reply_refusal
 
-    -- which is not 0: with no fault there are words
-    is_fault : fault ≡ 0 → ⊥
-    is_fault z =
-        let r = room fs theta qn qd short z in
-        let none : 0 ≡ length ws = ap (λ (r : Reply). r.value) e ∙ reply_value z in
-        omega (arith, (histogram.limits ws r.readable).words, none)
-
-    pub refused_sheet : refused_line number ≡ list_sheet fs theta qn qd
-    refused_sheet = ap refused_line refused_fault ∙ sym (list_refused fs theta qn qd is_fault)
-
   module _ (n : ℕ) (e : answered n ≡ build_reply fs theta qn qd max_sheet_words) where
     pub no_fault : fault ≡ 0
     no_fault = sym (ap (λ (r : Reply). r.refusal) e ∙ reply_refusal)
@@ -122,113 +116,91 @@ module _ (fs : List ℕ) (theta qn qd : ℕ) (short : length fs ≤ max_frequenc
     pub words_room : Roomy (words (quality theta qn qd) fs)
     words_room = room fs theta qn qd short no_fault
 
-    pub built_sheet : histogram_sheet (words (quality theta qn qd) fs) ≡ list_sheet fs theta qn qd
-    built_sheet = sym (list_printed fs theta qn qd no_fault)
+-- ---- what is read of an input
+
+abbrev count_of : Result (List ℕ) InputFault → ℕ
+count_of (Ok _) = 1
+count_of (Err _) = 0
+
+abbrev items_of : Result (List ℕ) InputFault → List ℕ
+items_of (Ok ns) = ns
+items_of (Err _) = []
+
+abbrev line_at : Result (List ℕ) InputFault → ℕ
+line_at (Ok _) = 0
+line_at (Err f) = f.line
+
+read_is : (t : Bool) (ms ns : List ℕ) (f : InputFault) → Ok ns ≡ cond t (Ok ms) (Err f) → (t ≡ true) × (ns ≡ ms)
+read_is true ms ns f e = (refl, ap items_of e)
+read_is false ms ns f e = absurd (let one : 1 ≡ 0 = ap count_of e in omega (arith, one))
+
+fault_is_at : (t : Bool) (ms : List ℕ) (f g : InputFault) → Err g ≡ cond t (Ok ms) (Err f) → (t ≡ false) × (g.line ≡ f.line)
+fault_is_at true ms f g e = absurd (let one : 0 ≡ 1 = ap count_of e in omega (arith, one))
+fault_is_at false ms f g e = (refl, ap line_at e)
+
+-- an input that is not as described
+pub turned_input : (input out : List ℕ) (end : ℕ) (f : InputFault) → end ≡ 0 → Err f ≡ input_numbers input → Turned input out out end (at.Input f)
+unfolding input_numbers
+turned_input input out end f z e =
+    let is = fault_is_at (as_described input) (numbers input) (record { line = fault_line input }) f e in
+    record {
+      said = record { number = sym (fault_refused input is.0); line = is.1 ∙ ap (λ (t : Bool). cond t 0 (fault_line input)) (sym is.0) };
+      text = sheet_refused input is.0;
+      same_bytes = refl;
+      at_start = z;
+    }
+
+-- one whose numbers are read
+module _ (input ns fs : List ℕ) (theta qn qd : ℕ) (read : Ok ns ≡ input_numbers input) (f : fs ≡ drop 3 ns)
+    (t : theta ≡ get_or ns 0 0) (n : qn ≡ get_or ns 1 0) (d : qd ≡ get_or ns 2 0) (short : length fs ≤ max_frequencies) where
+  numbers_read : (as_described input ≡ true) × (ns ≡ numbers input)
+  unfolding input_numbers
+  numbers_read = read_is (as_described input) (numbers input) ns (record { line = fault_line input }) read
+
+  list_fault : refusal (input_sentences fs theta qn qd) ≡ sheet_fault input
+  list_fault =
+      (λ i. refusal (input_sentences (f i) (t i) (n i) (d i)))
+      ∙ ap (λ (l : List ℕ). refusal (input_sentences (drop 3 l) (get_or l 0 0) (get_or l 1 0) (get_or l 2 0))) numbers_read.1
+      ∙ sym (fault_read input numbers_read.0)
+
+  no_line : 0 ≡ cond (as_described input) 0 (fault_line input)
+  no_line = ap (λ (x : Bool). cond x 0 (fault_line input)) (sym numbers_read.0)
+
+  pub turned_list : (out : List ℕ) (end : ℕ) (e : Refusal) → end ≡ 0 → refused (number_of e) ≡ build_reply fs theta qn qd max_sheet_words
+      → Turned input out out end (at.List e)
+  turned_list out end e z r =
+      let fault : number_of e ≡ sheet_fault input = refused_fault fs theta qn qd short (number_of e) r ∙ list_fault in
+      record {
+        said = record { number = fault; line = no_line };
+        text = exam.refused input (λ none. let some = answers.numbered e in omega (arith, fault, none, some)) ∙ ap refused_line (sym fault);
+        same_bytes = refl;
+        at_start = z;
+      }
+
+  pub done_list : (old new ws put : List ℕ) (k end : ℕ) → answered k ≡ build_reply fs theta qn qd max_sheet_words
+      → length ws ≡ max_sheet_words → put ≡ written fs theta qn qd ws → Put old new 0 end (histogram_sheet (take k put)) → Done input old new end
+  done_list old new ws put k end r l w p =
+      let none : sheet_fault input ≡ 0 = sym list_fault ∙ no_fault fs theta qn qd short k r in
+      let printed : histogram_sheet (take k put) ≡ sheet input =
+      ap histogram_sheet (words_are fs theta qn qd short k r ws put l w)
+      ∙ (λ i. histogram_sheet (words (quality (t i) (n i) (d i)) (f i)))
+      ∙ ap (λ (m : List ℕ). histogram_sheet (words (quality (get_or m 0 0) (get_or m 1 0) (get_or m 2 0)) (drop 3 m))) numbers_read.1
+      ∙ sym (exam.printed input none) in
+      record { said = record { number = sym none; line = no_line }; text = subst (Put old new 0 end) printed p }
+
+-- the error that a call hands on is the one that a reason was converted to
+pub turned_by : (input out : List ℕ) (end : ℕ) (e : SheetError) (r : Result Unit SheetError) → IsErrAnd r (λ x. x ≡ e) → Turned input out out end e
+    → Outcome input out out end r
+turned_by input out end e (Ok _) h t = absurd h
+turned_by input out end e (Err x) h t = subst⁻¹ (Turned input out out end) h t
 
 -- ---- the lent bytes
 
--- what is answered and lent, once a text is put that is the sheet, with its refusal and line
-answer_is : (input : List ℕ) {text old new : List ℕ} {number line : ℕ} (r : Printed) → Answered old new r number line text
-    → number ≡ sheet_fault input → line ≡ cond (as_described input) 0 (fault_line input) → text ≡ sheet input
-    → (r ≡ printed_of input) × (new ≡ filled old (sheet input))
-unfolding printed_of
-answer_is input {text} {old} r p n l t = (
-  ap (λ (k : ℕ). record { refusal = k; line = r.line; length = r.length }) (p.refused ∙ n)
-      ∙ ap (λ (k : ℕ). record { refusal = sheet_fault input; line = k; length = r.length }) (p.at_line ∙ l)
-      ∙ ap (λ (k : ℕ). record { refusal = sheet_fault input; line = cond (as_described input) 0 (fault_line input); length = k })
-      (omega (arith, p.text_put.ends, ap length t)),
-  p.text_put.bytes ∙ sets_filled old text ∙ ap (filled old) t,
-)
+pub put_filled : {old new : List ℕ} {end : ℕ} (text : List ℕ) → Put old new 0 end text → new ≡ filled old text
+put_filled {old} text p = p.bytes ∙ sets_filled old text
 
--- ---- the numbers of an input
-
-part_of_front : (k m : ℕ) (l : List ℕ) → take m (drop k l) ≡ drop k (take (k + m) l)
-part_of_front zero m l = ap (λ (n : ℕ). take n l) (sym (zero-add m))
-part_of_front (suc k) m [] = take-nil m ∙ sym (ap (drop (suc k)) (take-nil (suc k + m)))
-part_of_front (suc k) m (x ∷ l) = part_of_front k m l ∙ ap (λ (n : ℕ). drop (suc k) (take n (x ∷ l))) (sym (suc-add k m))
-
-module _ (input : List ℕ) (r : Numbers) (e : r ≡ input_numbers input) where
-  by_described : (t : Bool) → as_described input ≡ t → r ≡ cond t (numbers_of 0 0 (numbers input)) (numbers_of 18 (fault_line input) [])
-  unfolding input_numbers
-  by_described t d = e ∙ ap (λ (x : Bool). cond x (numbers_of 0 0 (numbers input)) (numbers_of 18 (fault_line input) [])) d
-
-  module _ (z : r.refusal ≡ 0 → ⊥) where
-    not_described : as_described input ≡ false
-    not_described = is_false (as_described input) (λ d. z (ap (λ (x : Numbers). x.refusal) (by_described true d)))
-
-    is_18 : r.refusal ≡ 18
-    is_18 = ap (λ (x : Numbers). x.refusal) (by_described false not_described)
-
-    -- the line of the refusal is all that is printed
-    pub refused_all : (old new : List ℕ) (p : Printed) → Answered old new p r.refusal r.line (refused_line r.refusal)
-        → (p ≡ printed_of input) × (new ≡ filled old (sheet input))
-    refused_all old new p a =
-        let line : r.line ≡ fault_line input = ap (λ (x : Numbers). x.line) (by_described false not_described) in
-        answer_is input p a
-        (is_18 ∙ sym (fault_refused input not_described))
-        (line ∙ ap (λ (t : Bool). cond t 0 (fault_line input)) (sym not_described))
-        (ap refused_line is_18 ∙ sym (sheet_refused input not_described))
-
-  module _ (z : r.refusal ≡ 0) where
-    described : as_described input ≡ true
-    described = ⊎_elim (λ (d : as_described input ≡ true). d) (λ (d : as_described input ≡ false). absurd (let f = ap (λ (x : Numbers). x.refusal) (by_described false d) in omega (arith, z, f))) (tested (as_described input))
-
-    numbers_are : take r.count r.values ≡ numbers input
-    numbers_are = ap (λ (x : Numbers). take x.count x.values) (by_described true described) ∙ padded_front most_numbers (numbers input)
-
-    pub count_many : (least_numbers ≤ r.count) × (r.count ≤ most_numbers)
-    count_many =
-        let c = ap (λ (x : Numbers). x.count) (by_described true described) in
-        let m = numbers_many input described in
-        (omega (arith, c, m.0), omega (arith, c, m.1))
-
-    frequencies : take (r.count - 3) (drop 3 r.values) ≡ drop 3 (numbers input)
-    frequencies =
-        let all : 3 + (r.count - 3) ≡ r.count = omega (arith, count_many.0) in
-        part_of_front 3 (r.count - 3) r.values ∙ ap (λ (k : ℕ). drop 3 (take k r.values)) all ∙ ap (drop 3) numbers_are
-
-    number_at : (k : ℕ) → k < least_numbers → get_or r.values k 0 ≡ get_or (numbers input) k 0
-    number_at k h = sym (get_or-take r.count r.values k 0 (omega (arith, count_many.0))) ∙ ap (λ (l : List ℕ). get_or l k 0) numbers_are
-
-    -- what depends on the list, theta, qn and qd is that of the numbers
-    by_numbers : {A : Type 0} (f : List ℕ → ℕ → ℕ → ℕ → A) → let ns = numbers input in
-        f (take (r.count - 3) (drop 3 r.values)) (get_or r.values 0 0) (get_or r.values 1 0) (get_or r.values 2 0)
-        ≡ f (drop 3 ns) (get_or ns 0 0) (get_or ns 1 0) (get_or ns 2 0)
-    by_numbers f =
-        let v = r.values in
-        let ns = numbers input in
-        ap (λ (l : List ℕ). f l (get_or v 0 0) (get_or v 1 0) (get_or v 2 0)) frequencies
-        ∙ ap (λ (x : ℕ). f (drop 3 ns) x (get_or v 1 0) (get_or v 2 0)) (number_at 0 (omega arith))
-        ∙ ap (λ (x : ℕ). f (drop 3 ns) (get_or ns 0 0) x (get_or v 2 0)) (number_at 1 (omega arith))
-        ∙ ap (f (drop 3 ns) (get_or ns 0 0) (get_or ns 1 0)) (number_at 2 (omega arith))
-
-    pub read_all : let fs = take (r.count - 3) (drop 3 r.values) in let v : ℕ → ℕ = λ i. get_or r.values i 0 in
-        (old new : List ℕ) (p : Printed) → Answered old new p (refusal (input_sentences fs (v 0) (v 1) (v 2))) 0 (list_sheet fs (v 0) (v 1) (v 2))
-        → (p ≡ printed_of input) × (new ≡ filled old (sheet input))
-    unfolding numbers_sheet
-    read_all old new p a =
-        answer_is input p a
-        (by_numbers (λ (fs : List ℕ) (theta qn qd : ℕ). refusal (input_sentences fs theta qn qd)) ∙ sym (fault_read input described))
-        (ap (λ (t : Bool). cond t 0 (fault_line input)) (sym described))
-        (by_numbers list_sheet ∙ sym (sheet_read input described))
-
--- ---- an input that is not as described, by what is read of it
-
-module _ (input : List ℕ) (z : (input_numbers input).refusal ≡ 0 → ⊥) where
-  abbrev said : List ℕ
-  said = refused_line (input_numbers input).refusal
-
-  pub refused_value : (n l k : ℕ) → n ≡ (input_numbers input).refusal → l ≡ (input_numbers input).line
-      → k ≡ length (refused_line (input_numbers input).refusal) → record { refusal = n; line = l; length = k } ≡ printed_of input
-  refused_value n l k a b e =
-      let p : Printed = record { refusal = n; line = l; length = k } in
-      let q = refused_all input (input_numbers input) refl z [] (sets [] 0 said) p
-      (record { refused = a; at_line = b; text_put = record { bytes = refl; ends = omega (arith, e) } }) in
-      q.0
-
-  pub refused_out : (old : List ℕ) → sets old 0 (refused_line (input_numbers input).refusal) ≡ filled old (sheet input)
-  refused_out old =
-      let p : Printed = record { refusal = (input_numbers input).refusal; line = (input_numbers input).line; length = length said } in
-      let a = refused_all input (input_numbers input) refl z old (sets old 0 said) p
-      (record { refused = refl; at_line = refl; text_put = record { bytes = refl; ends = omega arith } }) in
-      a.1
+-- where an input is refused, its line is all that is printed
+pub turned_filled : (input out old middle new : List ℕ) (end last : ℕ) (e : SheetError) (line : List ℕ) → old ≡ out → Turned input old middle end e
+    → Put middle new end last line → line ≡ refused_line (error_number e) → new ≡ filled out (sheet input)
+turned_filled input out old middle new end last e line o t p l =
+    p.bytes ∙ (λ i. sets ((t.same_bytes ∙ o) i) (t.at_start i) ((l ∙ sym t.text) i)) ∙ sets_filled out (sheet input)

@@ -1,12 +1,12 @@
 -- Laws of text that is put piece by piece: pieces follow one another, and each line is short enough for its place.
 -- Assumes nothing.
 use mathlib.Core.Path.{◌≡◌, refl, sym, ap, ◌∙◌, subst}
-use mathlib.Core.List.{List, [], ◌++◌}
-use Prim.Native.Nat.{ℕ, suc, ◌+◌, ◌*◌, ◌^◌, ◌≤◌, ◌<◌}
+use mathlib.Core.List.{List, [], ◌++◌, append_assoc}
+use Prim.Native.Nat.{ℕ, suc, ◌+◌, ◌-◌, ◌*◌, ◌≤◌, ◌<◌}
 use native.Mathlib.Omega.{arith}
-use lib.ListN.{length, take, length-append}
-use lib.Seq.{sets}
-use Rattle.laws.proofs.PaddedLaws.{padded_front}
+use borrow.Rule.Slice.PartMut.{put_mid}
+use lib.ListN.{length, take, drop, length-append}
+use lib.Seq.{sets, sets-eq, drop-drop}
 use Rattle.laws.proofs.SetsLaws.{sets_append}
 use Rattle.counts_rules.specs.Total.{total_number}
 use Rattle.words_rules.specs.declared.Bucket.{Bucket}
@@ -14,16 +14,22 @@ use Rattle.words_rules.specs.declared.Head.{Head}
 use Rattle.words_rules.specs.Words.{entries, theta, qn, qd, buckets, head_of, start, end}
 use Rattle.words_rules.specs.Decoded.{bucket_at, class_at, bucketlet_start, bucketlet_end, width_at, number_at}
 use Rattle.words_rules.proofs.EntryLaws.{bucketlet_end_lem}
-use Rattle.sheet_rules.specs.Limits.{max_bucketlet_line, max_bucket_part, line_bytes, sheet_bytes}
-use Rattle.sheet_rules.specs.Lines.{head_line, bucket_line, bucketlet_line, refused_line}
+use Rattle.sheet_rules.specs.Limits.{max_bucketlet_line, max_bucket_part, sheet_bytes}
+use Rattle.sheet_rules.specs.Lines.{head_line, bucket_line, bucketlet_line}
 use Rattle.sheet_rules.specs.Sheet.{joined, bucketlet_part, bucket_part, histogram_sheet}
 use Rattle.sheet_rules.specs.Private.Room.{Roomy, Printable}
-use Rattle.sheet_rules.proofs.SheetLaws.{Short, refused_short, some_part, bucketlet_short, joined_short, buckets_short}
-use Rattle.sheet_lines.specs.declared.Line.{Line}
-use Rattle.sheet_lines.specs.Line.{line_of}
+use Rattle.sheet_rules.proofs.SheetLaws.{Short, some_part, bucketlet_short, joined_short, buckets_short}
 use Rattle.sheet_text.specs.Private.Printing.{Put}
 
 -- ---- pieces
+
+-- a copy into a part of the bytes puts the text there
+pub put_part : (old text : List ℕ) (at n : ℕ) → n ≡ length text → at + n ≤ length old → put_mid at (at + n - at) old text ≡ sets old at text
+put_part old text at n e h =
+    let k : at + n - at ≡ length text = omega (arith, e) in
+    ap (λ (l : List ℕ). take at old ++ (text ++ l)) (drop-drop (at + n - at) at old ∙ ap (λ (m : ℕ). drop (at + m) old) k)
+    ∙ sym (append_assoc (take at old) text (drop (at + length text) old))
+    ∙ sym (sets-eq text old at (omega (arith, e, h)))
 
 pub put_nothing : (old : List ℕ) (at : ℕ) → Put old old at at []
 put_nothing old at = record { bytes = refl; ends = omega arith }
@@ -38,25 +44,6 @@ put_both {old} {middle} {new} {text} {more} {at} {next} {end} p q =
           ∙ sym (sets_append old at text more);
       ends = omega (arith, p.ends, q.ends, length-append text more);
     }
-
--- the line of a text is as long, and puts it
-line_length : (l : Line) (text : List ℕ) → l ≡ line_of text → l.length ≡ length text
-unfolding line_of
-line_length l text e = ap (λ (k : Line). k.length) e
-
-pub put_line : {old new : List ℕ} {at end : ℕ} (l : Line) (text : List ℕ) → l ≡ line_of text → Put old new at end (take l.length l.bytes) → Put old new at end text
-unfolding line_of
-put_line {old} {new} {at} {end} l text e p =
-    subst (Put old new at end) (ap (λ (k : Line). take k.length k.bytes) e ∙ padded_front line_bytes text) p
-
--- and has room where a text that long has
-pub line_room : {text : List ℕ} {a : ℕ} (at : ℕ) (l : Line) → l ≡ line_of text → Short text a → a ≤ line_bytes → at + a ≤ sheet_bytes
-    → (l.length ≤ line_bytes) × (at + l.length ≤ sheet_bytes)
-line_room {text} at l e s h r = (omega (arith, line_length l text e, s.within), omega (arith, line_length l text e, s.within))
-
--- a refusal's line has room
-pub refused_room : (l : Line) (number : ℕ) → l ≡ line_of (refused_line number) → number < 10 ^ 10 → (l.length ≤ line_bytes) × (0 + l.length ≤ sheet_bytes)
-refused_room l number e h = line_room 0 l e (refused_short number h) (omega arith) (omega arith)
 
 -- ---- bucketlets
 
@@ -130,8 +117,8 @@ pub more_buckets : (ws old out next : List ℕ) (b first at end : ℕ) → Put o
 unfolding joined
 more_buckets ws old out next b first at end p q = put_both p q
 
-pub all_buckets : (ws old out next : List ℕ) (n first at : ℕ) → n ≡ buckets ws
-    → Put old out 0 first (head_text ws) → Put out next first at (joined n (bucket_part ws))
-    → Put old next 0 at (histogram_sheet ws)
+pub all_buckets : (ws old out next : List ℕ) (n from first at : ℕ) → n ≡ buckets ws
+    → Put old out from first (head_text ws) → Put out next first at (joined n (bucket_part ws))
+    → Put old next from at (histogram_sheet ws)
 unfolding histogram_sheet
-all_buckets ws old out next n first at e p q = put_both p (subst (λ (k : ℕ). Put out next first at (joined k (bucket_part ws))) e q)
+all_buckets ws old out next n from first at e p q = put_both p (subst (λ (k : ℕ). Put out next first at (joined k (bucket_part ws))) e q)

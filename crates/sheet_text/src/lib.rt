@@ -4,71 +4,115 @@
 
 mod printing;
 
-ghost use Rattle.std.specs.Prelude.{◌≡◌, ◌≤◌, length};
-ghost use Rattle.laws.specs.Refusal.{refusal};
-ghost use Rattle.list_rules.specs.Quality.{input_sentences};
-ghost use Rattle.sheet_rules.specs.Limits.{max_frequencies};
-ghost use Rattle.sheet_rules.specs.Lines.{refused_line};
-ghost use Rattle.sheet_rules.specs.Sheet.{list_sheet, sheet, filled};
-ghost use Rattle.sheet_text.specs.Printed.{printed_of};
-ghost use Rattle.sheet_text.specs.Private.Printing.{Answered};
+ghost use Rattle.std.specs.Prelude.{◌≡◌, cond, length};
+ghost use Rattle.sheet_rules.specs.Input.{as_described, fault_line};
+ghost use Rattle.sheet_rules.specs.Sheet.{sheet_fault, sheet, filled};
+ghost use Rattle.sheet_text.specs.Printed.{error_number, number_of, line_of};
+ghost use Rattle.sheet_text.specs.Private.Printing.{Outcome};
 
-use builder::Built;
-use printing::{put, put_histogram};
+use printing::Sheet;
+use refusals::Refusal;
+use sheet_input::InputFault;
 use sheet_rules::{MAX_SHEET_WORDS, SHEET_BYTES};
+use std::error::Error;
+use std::fmt;
 
-// How many bytes are printed, and what the input is refused with: the number, or 0, and for 18 the line where it stops being as described, else 0.
-// A refusal is printed too.
-#[derive(Clone, Copy)]
+/// Why an input is refused: it is not as described, or the builder refuses its list.
+#[derive(Clone, Copy, Debug, PartialEq, Eq)]
+pub enum SheetError {
+    Input(InputFault),
+    List(Refusal),
+}
+
+impl SheetError {
+    pub fn number(self) -> u32
+        ensures { result ≡ error_number self }
+    {
+        match self {
+            SheetError::Input(_) => Refusal::Input.number(),
+            SheetError::List(refusal) => refusal.number(),
+        }
+    }
+}
+
+impl fmt::Display for SheetError {
+    fn fmt<W: fmt::Write>(&self, f: &mut fmt::Formatter<W>) -> fmt::Result {
+        match self {
+            SheetError::Input(fault) => write!(f, "{fault}"),
+            SheetError::List(refusal) => write!(f, "{refusal}"),
+        }
+    }
+}
+
+impl Error for SheetError {}
+
+impl From<InputFault> for SheetError {
+    ghost use Rattle.std.specs.Prelude.{◌≡◌};
+    ghost use Rattle.sheet_text.specs.declared.SheetError.TheVariants.{Input};
+
+    ghost from_gives = { λ fault e. e ≡ Input fault };
+
+    fn from(fault: InputFault) -> SheetError {
+        Self::Input(fault)
+    }
+}
+
+impl From<Refusal> for SheetError {
+    ghost use Rattle.std.specs.Prelude.{◌≡◌};
+    ghost use Rattle.sheet_text.specs.declared.SheetError.TheVariants as at;
+
+    ghost from_gives = { λ refusal e. e ≡ at.List refusal };
+
+    fn from(refusal: Refusal) -> SheetError {
+        Self::List(refusal)
+    }
+}
+
+/// How many bytes are printed, and why the input is refused, if it is: a refusal is printed too.
+#[derive(Clone, Copy, Debug, PartialEq, Eq)]
 pub struct Printed {
-    pub refusal: u32,
-    pub line: usize,
     pub length: usize,
+    pub refused: Option<SheetError>,
 }
 
-// The line of a refusal.
-fn put_refused(number: u32, line: usize, out: &mut [u8; SHEET_BYTES]) -> Printed
-    ensures { Answered out.old out.new result number line (refused_line number) }
+// Puts the sheet of an input that is not refused, and nothing of another.
+fn put_input(input: &[u8], sheet: &mut Sheet) -> Result<(), SheetError>
+    requires { sheet.old.at ≡ 0 }
+    ensures same_lender { sheet.new.out.ghost_name ≡ sheet.old.out.ghost_name }
+    ensures outcome { Outcome input.now sheet.old.out.now sheet.new.out.now sheet.new.at result }
 {
-    Printed {
-        refusal: number,
-        line,
-        length: put(sheet_lines::refused_line(number), out, 0),
-    }
-}
-
-// The sheet of a list, for whose histogram there is room.
-fn put_list(freqs: &[u32], theta: u32, qn: u32, qd: u32, out: &mut [u8; SHEET_BYTES]) -> Printed
-    requires { length freqs.now ≤ max_frequencies }
-    ensures { Answered out.old out.new result (refusal (input_sentences freqs.now theta qn qd)) 0
-        (list_sheet freqs.now theta qn qd) }
-{
+    let numbers = sheet_input::numbers_of(input)?;
     let mut words = [0u32; MAX_SHEET_WORDS];
-    let built = builder::build(freqs, theta, qn, qd, &mut words);
-    match built {
-        Built::Words(n) => Printed {
-            refusal: 0,
-            line: 0,
-            length: put_histogram(&words[..n], out),
-        },
-        Built::Refused(number) => put_refused(number, 0, out),
-    }
+    let n = builder::build(
+        numbers.frequencies(),
+        numbers.theta(),
+        numbers.qn(),
+        numbers.qd(),
+        &mut words,
+    )?;
+    sheet.put_histogram(&words[..n]);
+    Ok(())
 }
 
 // Fills the first bytes of `out` with what is printed for an input; those after them are as they were.
-#[tactic(auto, using(crate::proofs::ListLaws::refused_value, crate::proofs::ListLaws::refused_out))]
 pub fn put_sheet(input: &[u8], out: &mut [u8; SHEET_BYTES]) -> Printed
-    ensures value { result ≡ printed_of input.now }
+    ensures length { result.length ≡ length (sheet input.now) }
+    ensures refused { number_of result.refused ≡ sheet_fault input.now }
+    ensures line { line_of result.refused ≡ cond (as_described input.now) 0 (fault_line input.now) }
     ensures out_after { out.new ≡ filled out.old (sheet input.now) }
 {
-    let read = sheet_input::numbers_of(input);
-    if read.refusal != 0 {
-        return put_refused(read.refusal, read.line, out);
+    let mut sheet = Sheet::new(out);
+    match put_input(input, &mut sheet) {
+        Ok(()) => Printed {
+            length: sheet.len(),
+            refused: None,
+        },
+        Err(error) => {
+            sheet.put(sheet_lines::refused_line(error.number()));
+            Printed {
+                length: sheet.len(),
+                refused: Some(error),
+            }
+        }
     }
-    let values = read.values;
-    let n = read.count;
-    let theta = values[0];
-    let qn = values[1];
-    let qd = values[2];
-    put_list(&values[3..n], theta, qn, qd, out)
 }

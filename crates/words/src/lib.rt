@@ -1,5 +1,7 @@
 // What a list of words says: its head, and the span and the content of each of its buckets. Past the end of the list each word reads 0,
-// so that every call has an answer for every list and every number.
+// so that every call has an answer for every list and every number. Each takes the list and a number, as docs/CALLS.md names them.
+
+// `as` stands where the library has no `From`, between usize and sized numbers, and where a number is proved to fit: `try_from` adds an error that never comes.
 
 #![tactic(auto)]
 
@@ -13,7 +15,7 @@ use words_rules::{BUCKET_WORDS, Bucket, HEAD_WORDS, Head};
 pub fn word_at(words: &[u32], i: usize) -> u32
     ensures { result ≡ word words.now i }
 {
-    if i < words.len() { words[i] } else { 0 }
+    words.get(i).copied().unwrap_or(0)
 }
 
 // The number of entries, d.
@@ -57,33 +59,20 @@ fn bucket_word(words: &[u32], b: usize, j: usize) -> u32
 fn packed_or_zeros(words: &[u32], b: usize) -> [u32; BUCKET_WORDS]
     ensures { result ≡ packed_at words.now b }
 {
-    [
-        bucket_word(words, b, 0),
-        bucket_word(words, b, 1),
-        bucket_word(words, b, 2),
-        bucket_word(words, b, 3),
-        bucket_word(words, b, 4),
-    ]
+    std::array::from_fn(|j| bucket_word(words, b, j))
 }
 
 // The words of bucket b. Where all are in the list, one test serves them.
 pub fn packed_at(words: &[u32], b: usize) -> [u32; BUCKET_WORDS]
     ensures { result ≡ packed_at words.now b }
 {
-    if words.len() <= b {
-        return packed_or_zeros(words, b);
+    if b < words.len()
+        && let Some(rest) = words.get(HEAD_WORDS + BUCKET_WORDS * b..)
+        && let Some(&packed) = rest.first_chunk()
+    {
+        return packed;
     }
-    let at = HEAD_WORDS + BUCKET_WORDS * b;
-    if words.len() < at + BUCKET_WORDS {
-        return packed_or_zeros(words, b);
-    }
-    [
-        words[at],
-        words[at + 1],
-        words[at + 2],
-        words[at + 3],
-        words[at + 4],
-    ]
+    packed_or_zeros(words, b)
 }
 
 // The entry with which bucket b starts.
@@ -108,11 +97,11 @@ pub fn end_at(words: &[u32], b: usize) -> u32
 pub fn span_at(words: &[u32], b: usize) -> u32
     ensures { result ≡ span words.now b }
 {
-    let start = start_at(words, b);
-    arithmetic::left_of(end_at(words, b), start)
+    end_at(words, b).saturating_sub(start_at(words, b))
 }
 
 // The total code of bucket b, which one word holds.
+#[tactic(auto, unfolding(words_rules::specs::Decoded::decode))]
 pub fn total_at(words: &[u32], b: usize) -> u32
     ensures { result ≡ (bucket_at words.now b).total }
 {

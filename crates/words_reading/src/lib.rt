@@ -1,13 +1,14 @@
 // Whether a list of words is a histogram: sentences 7, 24 and 8 to 12, each tested over all buckets before the next.
 
+// `as` stands where the library has no `From`, between usize and sized numbers, and where a number is proved to fit: `try_from` adds an error that never comes.
+
 #![tactic(auto)]
 
-ghost use Rattle.std.specs.Prelude.{◌≡◌};
-ghost use Rattle.laws.specs.Each.{some};
-ghost use Rattle.words_rules.specs.Words.{buckets};
-ghost use Rattle.words_rules.specs.Reading.{head_fault, large_q_fault, length_fault, word_fault, start_fault, width_fault, code_fault, read_fault};
-ghost use Rattle.words_reading.specs.Private.Testing.{broken};
+ghost use Rattle.std.specs.Prelude.{◌≡◌, IfOk};
+ghost use Rattle.refusals.specs.Answers.{fault_of};
+ghost use Rattle.words_rules.specs.Reading.{head_fault, large_q_fault, length_fault, word_fault, start_fault, width_fault, code_fault, read_fault, Readable};
 
+use refusals::Refusal;
 use words_rules::{BUCKET_WORDS, HEAD_WORDS};
 
 // 7, from the length and the head words alone. Of the third only bits 19 to 0 may be set.
@@ -15,16 +16,13 @@ use words_rules::{BUCKET_WORDS, HEAD_WORDS};
 fn head_fault(words: &[u32]) -> bool
     ensures { result ≡ head_fault words.now }
 {
-    if words.len() < HEAD_WORDS {
-        return true;
-    }
-    if words::word_at(words, 2) >> 20 != 0 {
-        return true;
-    }
-    !words_faults::head_good(words::head_at(words))
+    words.len() < HEAD_WORDS
+        || words::word_at(words, 2) >> 20 != 0
+        || !words_faults::head_good(words::head_at(words))
 }
 
 // 24, from the head words alone.
+#[tactic(auto, unfolding(words_rules::specs::Reading::large_q_fault))]
 fn large_q_fault(words: &[u32]) -> bool
     ensures { result ≡ large_q_fault words.now }
 {
@@ -33,76 +31,38 @@ fn large_q_fault(words: &[u32]) -> bool
 }
 
 // 8
+#[tactic(auto, unfolding(words_rules::specs::Reading::length_fault))]
 fn length_fault(words: &[u32]) -> bool
     ensures { result ≡ length_fault words.now }
 {
     words.len() != HEAD_WORDS + BUCKET_WORDS * (words::bucket_count(words) as usize)
 }
 
-// What of a bucket is tested.
-#[derive(Clone, Copy)]
-enum Tested {
-    Words,
-    Widths,
-    Codes,
-}
-
-// Whether what is tested of bucket b is broken.
-fn is_broken(words: &[u32], b: usize, tested: Tested) -> bool
-    ensures { result ≡ broken words.now tested b }
-{
-    let packed = words::packed_at(words, b);
-    match tested {
-        Tested::Words => words_faults::words_broken(packed),
-        Tested::Widths => {
-            words_faults::widths_broken(words::span_at(words, b), words_fields::listed_sum(packed))
-        }
-        Tested::Codes => {
-            words_faults::codes_broken(words_fields::decode(packed, words::end_at(words, b)))
-        }
-    }
-}
-
-// The same of some bucket.
-fn has_broken(words: &[u32], tested: Tested) -> bool
-    ensures { result ≡ some (buckets words.now) (broken words.now tested) }
-{
-    let buckets = words::bucket_count(words) as usize;
-    for b in 0..buckets {
-        if is_broken(words, b, tested) {
-            return true;
-        }
-    }
-    false
-}
-
 // 9
 fn word_fault(words: &[u32]) -> bool
     ensures { result ≡ word_fault words.now }
 {
-    has_broken(words, Tested::Words)
+    let buckets = words::bucket_count(words) as usize;
+    (0..buckets).any(|b| words_faults::words_broken(words::packed_at(words, b)))
 }
 
-// 10
+// 10. A loop, since a closure that carried the least start on would get no proof. Buckets are packed words, and are asked for by number.
 #[tactic(auto, using(crate::proofs::StartSteps::first_start, crate::proofs::StartSteps::start_within, crate::proofs::StartSteps::start_after))]
 fn start_fault(words: &[u32]) -> bool
     ensures { result ≡ start_fault words.now }
 {
-    let entries = words::entry_count(words);
-    let buckets = words::bucket_count(words) as usize;
-    let mut before = words::start_at(words, 0);
-    if before != 0 {
+    if words::start_at(words, 0) != 0 {
         return true;
     }
+    let entries = words::entry_count(words);
+    let buckets = words::bucket_count(words) as usize;
+    let mut least = 0;
     for b in 0..buckets {
         let start = words::start_at(words, b);
-        if entries <= start {
+        if !(least..entries).contains(&start) {
             return true;
         }
-        if 0 < b && start <= before {
-            return true;
-        }
-        before = start;
+        least = start + 1;
     }
     false
 }
@@ -111,40 +71,67 @@ fn start_fault(words: &[u32]) -> bool
 fn width_fault(words: &[u32]) -> bool
     ensures { result ≡ width_fault words.now }
 {
-    has_broken(words, Tested::Widths)
+    let buckets = words::bucket_count(words) as usize;
+    (0..buckets).any(|b| {
+        let listed = words_fields::listed_sum(words::packed_at(words, b));
+        words_faults::widths_broken(words::span_at(words, b), listed)
+    })
 }
 
 // 12
 fn code_fault(words: &[u32]) -> bool
     ensures { result ≡ code_fault words.now }
 {
-    has_broken(words, Tested::Codes)
+    let buckets = words::bucket_count(words) as usize;
+    // not by `words::bucket_at`, which would put each bucket into memory
+    (0..buckets).any(|b| {
+        let packed = words::packed_at(words, b);
+        words_faults::codes_broken(words_fields::decode(packed, words::end_at(words, b)))
+    })
 }
 
-// The number of the first sentence of 7, 24 and 8 to 12 that is true of a list, or 0 where it is a histogram.
-pub fn read_fault(words: &[u32]) -> u32
-    ensures { result ≡ read_fault words.now }
+// The first sentence of 7, 24 and 8 to 12 that is true of a list; none is where it is a histogram.
+#[tactic(auto, unfolding(laws::specs::Refusal::refusal))]
+pub fn read_fault(words: &[u32]) -> Result<(), Refusal>
+    ensures { fault_of result ≡ read_fault words.now }
 {
     if head_fault(words) {
-        return 7;
+        return Err(Refusal::Head);
     }
     if large_q_fault(words) {
-        return 24;
+        return Err(Refusal::LargeQ);
     }
     if length_fault(words) {
-        return 8;
+        return Err(Refusal::WordCount);
     }
     if word_fault(words) {
-        return 9;
+        return Err(Refusal::BucketWord);
     }
     if start_fault(words) {
-        return 10;
+        return Err(Refusal::Start);
     }
     if width_fault(words) {
-        return 11;
+        return Err(Refusal::Width);
     }
     if code_fault(words) {
-        return 12;
+        return Err(Refusal::Code);
     }
-    0
+    Ok(())
+}
+
+// Words that are a histogram.
+#[derive(Clone, Copy, Debug, PartialEq, Eq)]
+pub struct Histogram<'a> {
+    pub words: &'a [u32],
+    ghost readable: { Readable words.now },
+}
+
+impl<'a> Histogram<'a> {
+    pub fn read(words: &'a [u32]) -> Result<Histogram<'a>, Refusal>
+        ensures fault { fault_of result ≡ read_fault words.now }
+        ensures words { IfOk result (λ h. h.words.now ≡ words.now) }
+    {
+        read_fault(words)?;
+        Ok(Histogram { words })
+    }
 }

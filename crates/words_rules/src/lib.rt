@@ -17,7 +17,7 @@ pub fn sizes() -> [usize; 2]
 }
 
 // What the head words hold: d, theta, q as qn/qd, and the number of buckets.
-#[derive(Clone, Copy)]
+#[derive(Clone, Copy, Debug, PartialEq, Eq)]
 pub struct Head {
     pub entries: u32,
     pub theta: u32,
@@ -26,9 +26,9 @@ pub struct Head {
     pub buckets: u32,
 }
 
-// A decoded bucket. The flag says that the eighth bucketlet is the free one, and not the first; the total is its code, which goes back
-// into the words as it is.
-#[derive(Clone, Copy)]
+// A decoded bucket, as specs/Decoded.antt has it: the widths and the classes are two lists there, and the flag is a bit of the words. It says that the
+// eighth bucketlet is the free one, and not the first; the total is its code, which goes back into the words as it is.
+#[derive(Clone, Copy, Debug, PartialEq, Eq)]
 pub struct Bucket {
     pub widths: [u32; 8],
     pub classes: [u32; 8],

@@ -225,12 +225,6 @@ low_bound q = record { over = Length; threshold = q.theta }
 abbrev pub up_bound : Quality → Bound
 up_bound q = record { over = Count; threshold = q.qd * q.theta / q.qn }
 
--- its numbers are small, and qn is not 0
-pub record ThresholdSmall (q : Quality) : Type 0 where
-  pub theta_small : q.theta ≤ max_theta
-  pub qd_small : q.qd ≤ max_q_part
-  pub qn_some : 0 < q.qn
-
 -- the bucketlet at a may be so wide
 pub record Growable (fs : List ℕ) (a most : ℕ) (q : Quality) : Type 0 where
   pub sound : Sound fs q
@@ -294,6 +288,5 @@ pub record Reached (q : Quality) (fs : List ℕ) (a most : ℕ) (g : Grown) : Ty
 
 -- or the next may fit
 pub record Continued (q : Quality) (fs : List ℕ) (a most : ℕ) (g : Grown) : Type 0 where
-  pub growable : Growable fs a most q
   pub fits_to : FitsTo q fs a most g.reached
   pub seen : BoundsSeen q fs a g.reached.at 0 g.bounds

@@ -1,72 +1,43 @@
--- `builder::build` meets its contract: a refusal leaves the lent words as they were, and else the histogram stands before what is left of them.
+-- `builder::build` meets its contract: the histogram stands before what is left of the lent words.
 -- Assumes nothing.
-use mathlib.Core.Path.{◌≡◌, ap, ◌∙◌}
+use mathlib.Core.Path.{◌≡◌, sym, ap, subst, ◌∙◌}
 use mathlib.Core.List.{List, ◌++◌}
-use Prim.Native.Nat.{ℕ, ◌≤◌, ◌<◌}
-use native.Mathlib.Nat.{zero-add}
+use Prim.Native.Nat.{ℕ, ◌≤◌}
 use native.Mathlib.Omega.{arith}
 use lib.ListN.{length, take, drop}
-use lib.Seq.{sets, sets-eq, length-take-le}
 use Rattle.laws.specs.Refusal.{refusal}
-use Rattle.laws.specs.Reply.{Reply, answered, refused}
-use Rattle.laws.proofs.ReplyLaws.{answered_case, refused_case}
+use Rattle.laws.specs.Reply.{answered}
+use Rattle.list_rules.specs.declared.Quality.{Quality}
 use Rattle.list_rules.specs.Quality.{input_sentences, quality}
-use Rattle.list_rules.proofs.SoundLaws.{sound_of}
-use Rattle.build_rules.specs.Words.{max_words}
 use Rattle.build_rules.specs.Building.{build_reply, written}
-use Rattle.build_rules.proofs.BuildingLaws.{refused_by, input_fault, short_fault_lem, answered_by}
-use Rattle.builder.specs.declared.Built.{Built}
-use Rattle.builder.specs.declared.Built.TheVariants.{Words, Refused}
-use Rattle.builder.specs.Built.{built_of}
+use Rattle.build_rules.proofs.BuildingLaws.{answered_by}
 use Rattle.builder.specs.Private.Filling.{Whole}
+use Rattle.builder.proofs.EarlyLaws.{refused_input_written}
 use Rattle.builder.proofs.build.Goals as goal
 
--- what the three clauses say of an answer and the words after it
-record Answers (fs : List ℕ) (theta qn qd : ℕ) (old new : List ℕ) (reply : Reply) (answer : Built) : Type 0 where
-  reply_is : reply ≡ build_reply fs theta qn qd (length old)
-  case_is : answer ≡ built_of (build_reply fs theta qn qd (length old))
-  after : new ≡ written fs theta qn qd old
+module _ (fs : List ℕ) (theta qn qd : ℕ) (passed : 0 ≡ refusal (input_sentences fs theta qn qd)) (read : List ℕ) (q : Quality) (is : (read ≡ fs) × (q ≡ quality theta qn qd)) where
+  answers : (old words first : List ℕ) (n : ℕ) → Whole read q words n → first ≡ take n words → n ≤ length old
+      → (answered n ≡ build_reply fs theta qn qd (length old)) × (first ++ drop n old ≡ written fs theta qn qd old)
+  answers old words first n h f l =
+      let w : Whole fs (quality theta qn qd) words n =
+      subst (λ (xs : List ℕ). Whole xs (quality theta qn qd) words n) is.0 (subst (λ (q : Quality). Whole read q words n) is.1 h) in
+      let r = answered_by fs theta qn qd old (sym passed) n words w.count w.front l in
+      (r.0, ap (λ (x : List ℕ). x ++ drop n old) f ∙ r.1)
 
-module _ (fs : List ℕ) (theta qn qd : ℕ) (old : List ℕ) where
-  faulty : (n : ℕ) → n ≡ refusal (input_sentences fs theta qn qd) → (n ≡ 0 → ⊥) → Answers fs theta qn qd old old (refused n) (Refused n)
-  faulty n e z =
-      let r = refused_by fs theta qn qd old n (e ∙ input_fault fs theta qn qd old (λ y. z (e ∙ y))) z in
-      let p = refused_case Words Refused n _ z r.0 in
-      record { reply_is = p.0; case_is = p.1; after = r.1 }
-
-  module _ (passed : refusal (input_sentences fs theta qn qd) ≡ 0) (words : List ℕ) (n : ℕ) (h : Whole fs (quality theta qn qd) words n) where
-    short : length old < n → Answers fs theta qn qd old old (refused 6) (Refused 6)
-    short l =
-        let r = refused_by fs theta qn qd old 6 (short_fault_lem fs theta qn qd old passed (omega (arith, h.count))) (λ z. omega arith) in
-        let p = refused_case Words Refused 6 _ (λ z. omega arith) r.0 in
-        record { reply_is = p.0; case_is = p.1; after = r.1 }
-
-    long : (new : List ℕ) → length words ≡ max_words → n ≤ length old → new ≡ sets old 0 (take n words) → Answers fs theta qn qd old new (answered n) (Words n)
-    long new all l e =
-        let first = take n words in
-        let m : length first ≡ n = length-take-le n words (omega (arith, h.few)) in
-        let r = answered_by fs theta qn qd old passed _ _ h.count h.front (omega arith) in
-        let p = answered_case Words Refused n _ r.0 in
-        let f = e ∙ sets-eq first old 0 (omega arith) ∙ ap (λ (k : ℕ). first ++ drop k old) (zero-add (length first) ∙ m) in
-        record { reply_is = p.0; case_is = p.1; after = f ∙ r.1 }
+pub returns-in_err-input-clause-out_after : goal.returns-in_err-input-clause-out_after
+returns-in_err-input-clause-out_after c = sym (refused_input_written _ _ _ _ _ _ c.in_err-input.ensures.fault)
 
 pub put_words-n-requires : goal.put_words-n-requires
-put_words-n-requires c = (sound_of _ _ _ _ (let e = c.input_fault-fault.ensures in omega arith), omega arith)
+put_words-n-requires c = omega arith
 
 pub returns-clause-reply : goal.returns-clause-reply
 returns-clause-reply c =
-    let e = c.input_fault-fault.ensures in
-    (long c.args.freqs.now c.args.theta c.args.qn c.args.qd c.args.out.now (omega arith) c.put_words-n.new.words c.put_words-n.result c.put_words-n.ensures
-    c.put_all.new.words c.put_words-n.auto.words (omega arith) c.put_all.ensures).reply_is
-
-pub returns-clause-case : goal.returns-clause-case
-returns-clause-case c =
-    let e = c.input_fault-fault.ensures in
-    (long c.args.freqs.now c.args.theta c.args.qn c.args.qd c.args.out.now (omega arith) c.put_words-n.new.words c.put_words-n.result c.put_words-n.ensures
-    c.put_all.new.words c.put_words-n.auto.words (omega arith) c.put_all.ensures).case_is
+    let i = c.in_ok-input in
+    (answers c.args.freqs.now c.args.theta c.args.qn c.args.qd i.ensures.fault i.input.freqs.now i.input.q i.ensures.input c.args.out.now c.put_words-n.new.words
+    c.copy_from_slice.new.self c.put_words-n.result c.put_words-n.ensures c.copy_from_slice.ensures.after (omega arith)).0
 
 pub returns-clause-out_after : goal.returns-clause-out_after
 returns-clause-out_after c =
-    let e = c.input_fault-fault.ensures in
-    (long c.args.freqs.now c.args.theta c.args.qn c.args.qd c.args.out.now (omega arith) c.put_words-n.new.words c.put_words-n.result c.put_words-n.ensures
-    c.put_all.new.words c.put_words-n.auto.words (omega arith) c.put_all.ensures).after
+    let i = c.in_ok-input in
+    (answers c.args.freqs.now c.args.theta c.args.qn c.args.qd i.ensures.fault i.input.freqs.now i.input.q i.ensures.input c.args.out.now c.put_words-n.new.words
+    c.copy_from_slice.new.self c.put_words-n.result c.put_words-n.ensures c.copy_from_slice.ensures.after (omega arith)).1

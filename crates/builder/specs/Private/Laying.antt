@@ -1,17 +1,10 @@
 -- The words of the private contracts that lay out buckets.
 -- Assumes nothing.
-use Rattle.std.specs.Prelude.{List, ℕ, ◌+◌, ◌≤◌, length}
+use Rattle.std.specs.Prelude.{List, ℕ, ◌+◌}
 use Rattle.laws.specs.Sums.{sum}
 use Rattle.list_rules.specs.declared.Quality.{Quality}
-use Rattle.list_rules.specs.Private.Sound.{Sound}
 use Rattle.build_rules.specs.Bucket.{bucket_widths, bucket_from}
 use Rattle.builder.specs.declared.bucket.Placed.{Placed}
-
--- an entry of a stretch of the list, or its end
-pub record Layable (fs : List ℕ) (q : Quality) (end a : ℕ) : Type 0 where
-  pub sound : Sound fs q
-  pub inside : end ≤ length fs
-  pub before : a ≤ end
 
 -- the bucket, and where the next one starts
 abbrev pub placed : Quality → List ℕ → ℕ → ℕ → Placed

@@ -2,8 +2,7 @@
 -- Assumes nothing.
 use Rattle.std.specs.Prelude.{◌≡◌, Bool, List, ◌⊎◌, ℕ, ◌+◌, ◌-◌, ◌*◌, ◌^◌, ◌≤◌, ◌<◌, max, ltb, length, get_or}
 use Rattle.laws.specs.Sums.{part_sum}
-use Rattle.list_rules.specs.Limits.{max_entries, max_theta, max_q_part}
-use Rattle.words_rules.specs.Limits.{max_width}
+use Rattle.list_rules.specs.Limits.{max_entries}
 use Rattle.list_rules.specs.declared.Quality.{Quality}
 use Rattle.checker.specs.declared.bound.Measure.{Measure}
 use Rattle.checker.specs.declared.bound.Bound.{Bound}
@@ -27,35 +26,17 @@ range_breaks b fs i j = breaks b (part_sum (b.start + i) (j - i) fs) (j - i)
 
 -- ---- the two bounds
 
+-- of two measures, above theta
+abbrev pub bound_of : Quality → ℕ → ℕ → Measure → Measure → Bound
+bound_of q a w over under = record { start = a; width = w; over = over; under = under; least = q.qd * (q.theta * w) }
+
 -- the count is above theta, and more than q times the estimate
 abbrev pub count_bound : Quality → ℕ → ℕ → ℕ → Bound
-count_bound q a w s =
-    record {
-      start = a;
-      width = w;
-      over = record { count = q.qd * w; entry = 0 };
-      under = record { count = 0; entry = q.qn * s };
-      least = q.qd * (q.theta * w);
-    }
+count_bound q a w s = bound_of q a w (record { count = q.qd * w; entry = 0 }) (record { count = 0; entry = q.qn * s })
 
 -- the same with the two exchanged
 abbrev pub estimate_bound : Quality → ℕ → ℕ → ℕ → Bound
-estimate_bound q a w s =
-    record {
-      start = a;
-      width = w;
-      over = record { count = 0; entry = q.qd * s };
-      under = record { count = q.qn * w; entry = 0 };
-      least = q.qd * (q.theta * w);
-    }
-
--- their numbers are small
-pub record Limited (q : Quality) (w s : ℕ) : Type 0 where
-  pub theta_small : q.theta ≤ max_theta
-  pub qn_small : q.qn ≤ max_q_part
-  pub qd_small : q.qd ≤ max_q_part
-  pub narrow : w ≤ max_width
-  pub number_small : s < 2 ^ 31
+estimate_bound q a w s = bound_of q a w (record { count = 0; entry = q.qd * s }) (record { count = q.qn * w; entry = 0 })
 
 -- ---- points
 

@@ -1,17 +1,19 @@
 -- The words of the private contracts of the checker: what keeps its products within 64 bits, where the search of a bucketlet begins, and what a
 -- histogram without a fault gives.
 -- Assumes nothing.
-use Rattle.std.specs.Prelude.{◌≡◌, Bool, true, false, not, List, ℕ, ◌+◌, ◌-◌, ◌*◌, ◌^◌, ◌≤◌, ◌<◌, length}
+use Rattle.std.specs.Prelude.{◌≡◌, Bool, true, false, not, List, ℕ, ◌+◌, ◌-◌, ◌*◌, ◌^◌, ◌≤◌, ◌<◌, length, Result, Ok, Err}
 use Rattle.laws.specs.Sums.{part_sum}
 use Rattle.counts_rules.specs.Limit.{limit}
 use Rattle.counts_rules.specs.Form.{used_class}
 use Rattle.counts_rules.specs.Total.{valid_code}
 use Rattle.list_rules.specs.Limits.{max_theta, max_q_part}
 use Rattle.words_rules.specs.Limits.{max_width}
-use Rattle.words_rules.specs.Words.{buckets}
 use Rattle.list_rules.specs.declared.Quality.{Quality}
 use Rattle.fit.specs.Fit.{fits}
 use Rattle.fit.specs.Accepted.{check_fault}
+use Rattle.check_rules.specs.declared.Failing.{Failing}
+use Rattle.check_rules.specs.declared.Verdict.{Verdict}
+use Rattle.check_rules.specs.declared.Verdict.TheVariants.{Accepted, Fails}
 use Rattle.check_rules.specs.Failing.{range_good}
 use Rattle.list_rules.specs.Private.Sound.{Sound}
 
@@ -52,15 +54,13 @@ pub record FirstStart (w : ℕ) (bad : ℕ → ℕ → Bool) (from i : ℕ) : Ty
   pub ended : i < w → BadEnd w bad i
 
 -- a bucketlet inside the list, with its class in the number's place
-pub record Classed (fs : List ℕ) (q : Quality) (a w class : ℕ) : Type 0 where
-  pub sound : Sound fs q
+pub record Classed (fs : List ℕ) (a w class : ℕ) : Type 0 where
   pub inside : a + w ≤ length fs
   pub narrow : w ≤ max_width
   pub used : used_class class ≡ true
 
 -- a bucket's span inside the list, and its total
-pub record Totalled (fs : List ℕ) (q : Quality) (start end code : ℕ) : Type 0 where
-  pub sound : Sound fs q
+pub record Totalled (fs : List ℕ) (start end code : ℕ) : Type 0 where
   pub ordered : start ≤ end
   pub inside : end ≤ length fs
   pub valid : valid_code code ≡ true
@@ -70,7 +70,7 @@ pub record Checkable (fs ws : List ℕ) (q : Quality) : Type 0 where
   pub no_fault : check_fault fs ws ≡ 0
   pub sound : Sound fs q
 
--- a bucket of it
-pub record Bucketed (fs ws : List ℕ) (q : Quality) (b : ℕ) : Type 0 where
-  pub checkable : Checkable fs ws q
-  pub is_bucket : b < buckets ws
+-- what the checks inside the checker answer
+abbrev pub verdict_of : Result Unit Failing → Verdict
+verdict_of (Ok _) = Accepted
+verdict_of (Err f) = Fails f

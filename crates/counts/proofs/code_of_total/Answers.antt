@@ -6,26 +6,14 @@ use Prim.Native.Nat.{ℕ, ◌*◌, ◌/◌, ◌%◌, ◌^◌, ◌≤◌}
 use native.Mathlib.Omega.{arith}
 use borrow.Author.Tests.{leb-true}
 use lib.Bits.{bit_or, or_comm}
-use Rattle.laws.specs.Reply.{answered}
 use Rattle.counts_rules.specs.Limit.{limit, countable}
 use Rattle.counts_rules.specs.Total.{total_code, shift}
 use Rattle.counts_rules.proofs.TotalLaws.{shift_small}
-use Rattle.counts.specs.declared.Coded.TheVariants.{Code, Refused}
-use Rattle.counts.specs.Reply.{total_reply, coded_of}
-use Rattle.counts.proofs.CountLaws.{replied, code_packed, bits_shifted}
+use Rattle.counts.proofs.CountLaws.{total_answered, code_packed, bits_shifted}
 use Rattle.counts.proofs.code_of_total.Goals as goal
 
 small : (t : ℕ) → true ≡ countable t → t ≤ limit
 small t e = leb-true t limit (sym e)
-
-module _ (t w : ℕ) (h : true ≡ countable t) (e : w ≡ total_code t) where
-  coded : answered w ≡ total_reply t
-  unfolding total_reply
-  coded = (replied Code (λ _. Refused) (countable t) w (total_code t) 16 (sym h) e).0
-
-  coded_case : Code w ≡ coded_of (total_reply t)
-  unfolding total_reply
-  coded_case = (replied Code (λ _. Refused) (countable t) w (total_code t) 16 (sym h) e).1
 
 -- the bits above the shift, put together in either order
 module _ (t s : ℕ) (h : true ≡ countable t) (e : s ≡ shift t) where
@@ -44,16 +32,9 @@ overflow_shr-bits c =
     let t : true ≡ countable c.args.total = cc in
     omega (arith, c.shift_of-shift.ensures, shift_small c.args.total (small _ t))
 
-pub returns-clause-reply : goal.returns-clause-reply
-returns-clause-reply c =
+pub returns : goal.returns
+returns c =
     let n = c.args.total in
     let s = c.shift_of-shift in
     let t : true ≡ countable n = cc in
-    coded n _ t (omega (arith, packed n s.result t s.ensures, exchanged n s.result t s.ensures))
-
-pub returns-clause-case : goal.returns-clause-case
-returns-clause-case c =
-    let n = c.args.total in
-    let s = c.shift_of-shift in
-    let t : true ≡ countable n = cc in
-    coded_case n _ t (omega (arith, packed n s.result t s.ensures, exchanged n s.result t s.ensures))
+    total_answered n _ t (omega (arith, packed n s.result t s.ensures, exchanged n s.result t s.ensures))

@@ -1,11 +1,13 @@
--- `journal::outside_fault` meets its contract. At the loop the entries of the lines before i are in the list.
+-- `journal::outside_fault` meets its contract: what `any` finds among the entries is what `some` finds among the lines.
 -- Assumes nothing.
-use Rattle.std.proofs.Common.{arith}
-use Rattle.journal.proofs.FaultLaws.{looking_none, looking_more}
+use Rattle.std.proofs.Common.{◌∙◌, length, rules, tests}
+use Rattle.std.proofs.Math.Dec.{leb}
+use Rattle.std.proofs.lemmas.Iterator.{YieldsList-from_slice}
+use Rattle.std.proofs.lemmas.Iterator.Search.{any_from_yields_List}
+use Rattle.journal.proofs.FaultLaws.{any_outside}
 use Rattle.journal.proofs.outside_fault.Goals as goal
 
-pub loop-i-init : goal.loop-i-init
-loop-i-init c = looking_none c.args.freqs.now c.args.entries.now
-
-pub loop-i-preserved : goal.loop-i-preserved
-loop-i-preserved c = looking_more c.args.freqs.now c.args.entries.now c.loop-i.i c.loop-i.invariant (omega arith) (omega arith)
+pub returns : goal.returns
+returns c =
+    any_from_yields_List (λ e. leb (length c.args.freqs.now) e) _ _ _ c.any.ensures.ran (YieldsList-from_slice c.args.entries.now cc) (λ x b q k. search (rules, tests))
+    ∙ any_outside c.args.freqs.now c.args.entries.now

@@ -1,13 +1,11 @@
 -- `journal::replay_over` meets its contract: the copy holds what the list does, so that what its replay says is said of the list, and the list is
 -- changed only where no line broke a bound.
 -- Assumes nothing.
-use Rattle.std.proofs.Common.{arith, sym, ap, ◌≡◌, ◌∙◌, List, ℕ, ℤ}
+use Rattle.std.proofs.Common.{arith, rules, sym, ap, ◌≡◌, ◌∙◌, List, ℕ, ℤ}
 use mathlib.Core.Path.{subst}
 use Rattle.laws.specs.Sums.{sum}
-use Rattle.laws.proofs.ReplyLaws.{answered_case, refused_case}
 use Rattle.journal_rules.specs.Replaying.{outside_fault, after_all}
-use Rattle.journal.specs.declared.Replayed.TheVariants.{Sum, Refused}
-use Rattle.journal.specs.declared.lines.Changed.TheVariants.{To}
+use Rattle.std.specs.Prelude.{None, Some}
 use Rattle.journal.specs.Private.Testing.{Tested}
 use Rattle.journal.specs.Private.Changing.{lines_changed, LinesLeft, ElseSame}
 use Rattle.journal.proofs.ListLaws.{but_for_lines}
@@ -15,9 +13,9 @@ use Rattle.journal.proofs.TestedLaws.{tested_inside, tested_paired, tested_sum, 
 use Rattle.journal.proofs.replay_over.Goals as goal
 
 -- what the replay over the copy says is said of the list: where it answers a sum, no line broke a bound
-module _ (fs es copy left : List ℕ) (cs : List ℤ) (n : ℕ) (same : copy ≡ fs) (t : Tested fs es cs) (p : To n ≡ lines_changed copy es cs)
+module _ (fs es copy left : List ℕ) (cs : List ℤ) (n : ℕ) (same : copy ≡ fs) (t : Tested fs es cs) (p : Some n ≡ lines_changed copy es cs)
     (l : LinesLeft copy es cs left) where
-  to_all : To n ≡ lines_changed fs es cs
+  to_all : Some n ≡ lines_changed fs es cs
   to_all = p ∙ ap (λ (c : List ℕ). lines_changed c es cs) same
 
   changed : left ≡ after_all fs es cs
@@ -25,38 +23,39 @@ module _ (fs es copy left : List ℕ) (cs : List ℤ) (n : ℕ) (same : copy ≡
       let of_list = subst (λ (c : List ℕ). LinesLeft c es cs left) same l in
       of_list.unbroken (replay_bound fs es cs t n to_all)
 
-pub copy_in-sum-requires : goal.copy_in-sum-requires
-copy_in-sum-requires c = (c.requires.1, tested_sum c.args.freqs.now c.args.entries.now c.args.changes.now c.requires.0)
+pub sum_of-sum-requires : goal.sum_of-sum-requires
+sum_of-sum-requires c = tested_sum c.args.freqs.now c.args.entries.now c.args.changes.now c.requires.0
 
 pub replay_lines-requires : goal.replay_lines-requires
 replay_lines-requires c =
     let fs = c.args.freqs.now in
     let es = c.args.entries.now in
     let cs = c.args.changes.now in
-    let same = c.copy_in-sum.ensures in (
+    let same = c.copy_from_slice.ensures.after in (
       record {
         paired = tested_paired fs es cs c.requires.0;
-        inside = ap (λ (l : List ℕ). outside_fault l es) same.copy_after ∙ tested_inside fs es cs c.requires.0;
+        inside = ap (λ (l : List ℕ). outside_fault l es) same ∙ tested_inside fs es cs c.requires.0;
       },
-      same.value ∙ ap sum (sym same.copy_after),
+      c.sum_of-sum.ensures ∙ ap sum (sym same),
     )
 
-pub returns-in_default : goal.returns-in_default
-returns-in_default c =
+pub returns-in_err-moved : goal.returns-in_err-moved
+returns-in_err-moved c =
     let es = c.args.entries.now in
     let cs = c.args.changes.now in
+    let none : c.replay_lines.result ≡ None = grind arith in
     let b = replay_broken c.args.freqs.now es cs c.requires.0
-    (c.in_default.ensures.value ∙ ap (λ (l : List ℕ). lines_changed l es cs) c.copy_in-sum.ensures.copy_after) in
-    let p = refused_case Sum Refused 27 _ (λ z. omega arith) b.0 in
-    record { reply = p.0; case = p.1; freqs_after = b.1 }
+    (sym none ∙ c.replay_lines.ensures.value ∙ ap (λ (l : List ℕ). lines_changed l es cs) c.copy_from_slice.ensures.after) in
+    record { reply = search (rules, b.0); freqs_after = b.1 }
 
 pub put_changed-requires : goal.put_changed-requires
 put_changed-requires c =
     let fs = c.args.freqs.now in
     let es = c.args.entries.now in
     let cs = c.args.changes.now in
+    let some : c.replay_lines.result ≡ Some c.in_ok-moved.moved = grind arith in
     subst (λ (l : List ℕ). ElseSame l es fs 0)
-    (sym (changed fs es _ _ cs c.in-To.moved c.copy_in-sum.ensures.copy_after c.requires.0 c.in-To.ensures.value c.in-To.ensures.lines_left))
+    (sym (changed fs es _ _ cs c.in_ok-moved.moved c.copy_from_slice.ensures.after c.requires.0 (sym some ∙ c.replay_lines.ensures.value) c.replay_lines.ensures.lines_left))
     (but_for_lines fs es cs (tested_inside fs es cs c.requires.0) (tested_paired fs es cs c.requires.0))
 
 pub returns : goal.returns
@@ -64,12 +63,14 @@ returns c =
     let fs = c.args.freqs.now in
     let es = c.args.entries.now in
     let cs = c.args.changes.now in
-    let same = c.copy_in-sum.ensures.copy_after in
-    let d = replay_done fs es cs c.requires.0 c.in-To.moved
-    (to_all fs es _ _ cs c.in-To.moved same c.requires.0 c.in-To.ensures.value c.in-To.ensures.lines_left) in
-    let p = answered_case Sum Refused _ _ d.0 in
+    let some : c.replay_lines.result ≡ Some c.in_ok-moved.moved = grind arith in
+    let same = c.copy_from_slice.ensures.after in
+    let d = replay_done fs es cs c.requires.0 c.in_ok-moved.moved
+    (to_all fs es _ _ cs c.in_ok-moved.moved same c.requires.0 (sym some ∙ c.replay_lines.ensures.value) c.replay_lines.ensures.lines_left) in
     record {
-      reply = p.0;
-      case = p.1;
-      freqs_after = c.put_changed.ensures ∙ changed fs es _ _ cs c.in-To.moved same c.requires.0 c.in-To.ensures.value c.in-To.ensures.lines_left ∙ d.1;
+      reply = d.0;
+      freqs_after =
+          c.put_changed.ensures
+          ∙ changed fs es _ _ cs c.in_ok-moved.moved same c.requires.0 (sym some ∙ c.replay_lines.ensures.value) c.replay_lines.ensures.lines_left
+          ∙ d.1;
     }

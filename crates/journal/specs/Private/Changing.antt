@@ -1,27 +1,25 @@
 -- What the steps of a replay come to: one count changed, one line, all lines, and the list changed afterwards.
 -- Assumes nothing.
-use Rattle.std.specs.Prelude.{◌≡◌, false, cond, List, ℕ, ◌≤◌, ◌<◌, leb, ℤ, pos, negsuc, ◌+ℤ◌, length, get_or}
+use Rattle.std.specs.Prelude.{◌≡◌, false, cond, List, ℕ, ◌≤◌, ◌<◌, leb, ℤ, pos, negsuc, ◌+ℤ◌, length, get_or, Option, None, Some}
 use Rattle.laws.specs.Sums.{sum}
 use Rattle.counts_rules.specs.Limit.{limit}
 use Rattle.journal_rules.specs.Lines.{signed, unsigned, entry_at, after_line}
 use Rattle.journal_rules.specs.Replaying.{outside_fault, breaks, bound_fault, after_all}
-use Rattle.journal.specs.declared.lines.Changed.{Changed}
-use Rattle.journal.specs.declared.lines.Changed.TheVariants.{To, Broken}
 
 -- a whole number as a count, if it is one from 0 up to the limit
-abbrev pub count_of : ℤ → Changed
-count_of (pos n) = cond (leb n limit) (To n) Broken
-count_of (negsuc n) = Broken
+abbrev pub count_of : ℤ → Option ℕ
+count_of (pos n) = cond (leb n limit) (Some n) None
+count_of (negsuc n) = None
 
-abbrev pub changed_by : ℕ → ℤ → Changed
+abbrev pub changed_by : ℕ → ℤ → Option ℕ
 changed_by count change = count_of (pos count +ℤ change)
 
 -- the list after one line
 abbrev pub line_of : List ℕ → ℕ → ℤ → List ℕ
 line_of fs e c = unsigned (after_line (signed fs) e c)
 
-unfoldable pub line_changed : List ℕ → ℕ → ℤ → Changed
-line_changed fs e c = cond (breaks (after_line (signed fs) e c)) Broken (To (sum (line_of fs e c)))
+unfoldable pub line_changed : List ℕ → ℕ → ℤ → Option ℕ
+line_changed fs e c = cond (breaks (after_line (signed fs) e c)) None (Some (sum (line_of fs e c)))
 
 -- a line that breaks a bound leaves the list as it was
 unfoldable pub line_left : List ℕ → ℕ → ℤ → List ℕ
@@ -32,8 +30,8 @@ pub record Replayable (fs es : List ℕ) (cs : List ℤ) : Type 0 where
   pub paired : length es ≡ length cs
   pub inside : outside_fault fs es ≡ false
 
-unfoldable pub lines_changed : List ℕ → List ℕ → List ℤ → Changed
-lines_changed fs es cs = cond (bound_fault fs es cs) Broken (To (sum (after_all fs es cs)))
+unfoldable pub lines_changed : List ℕ → List ℕ → List ℤ → Option ℕ
+lines_changed fs es cs = cond (bound_fault fs es cs) None (Some (sum (after_all fs es cs)))
 
 -- the list afterwards, unless a line broke a bound
 pub record LinesLeft (fs es : List ℕ) (cs : List ℤ) (left : List ℕ) : Type 0 where

@@ -6,21 +6,17 @@ use Rattle.sheet_rules.specs.Limits.{sheet_bytes}
 use Rattle.sheet_rules.specs.Sheet.{sheet, filled}
 use Rattle.sheet_rules.proofs.SheetLaws.{filled_length}
 use Rattle.sheet_rules.proofs.Proved.{exam}
-use Rattle.sheet_text.specs.declared.Printed.{Printed}
-use Rattle.sheet_text.specs.Printed.{printed_of}
 use Rattle.sheet.proofs.main.Goals as goal
 
-within : (input out : List ℕ) (p : Printed) → p ≡ printed_of input → out ≡ filled (replicate sheet_bytes 0) (sheet input) → p.length ≤ length out
-unfolding printed_of
-within input out p e f =
+within : (input out : List ℕ) (n : ℕ) → n ≡ length (sheet input) → out ≡ filled (replicate sheet_bytes 0) (sheet input) → n ≤ length out
+within input out n e f =
     let all : length out ≡ sheet_bytes = ap length f ∙ filled_length _ _ ∙ length-replicate {A = ℕ} sheet_bytes 0 in
-    let count = ap (λ (r : Printed). r.length) e in
-    omega (arith, all, count, exam.short input)
+    omega (arith, all, e, exam.short input)
 
 pub slice_bounds-out-end : goal.slice_bounds-out-end
-slice_bounds-out-end c = let l = c.put_sheet-printed in within _ l.new.out l.result l.ensures.value l.ensures.out_after
+slice_bounds-out-end c = let l = c.put_sheet-printed in within _ l.new.out _ l.ensures.length l.ensures.out_after
 
 pub slice_bounds-write_all-end : goal.slice_bounds-write_all-end
 slice_bounds-write_all-end c =
     let l = c.put_sheet-printed in
-    sym (length-take-le l.result.length l.new.out (within _ l.new.out l.result l.ensures.value l.ensures.out_after))
+    sym (length-take-le l.result.length l.new.out (within _ l.new.out _ l.ensures.length l.ensures.out_after))

@@ -1,18 +1,23 @@
--- The words of the private contract of a line.
+-- The words of the private contracts of a line.
 -- Assumes nothing.
-use Rattle.std.specs.Prelude.{◌≡◌, List, ◌∷◌, ℕ, suc, ◌≤◌, ◌<◌, length, drop}
-use Rattle.sheet_rules.specs.Input.{lines, all_numerals, numbers, numeral_lines}
-use Rattle.sheet_input.specs.declared.line.Line.{Line}
-use Rattle.sheet_input.specs.declared.line.Line.TheVariants.{Number, Broken}
+use Rattle.std.specs.Prelude.{◌≡◌, cond, ◌&&◌, List, ◌∷◌, ℕ, suc, ◌^◌, ◌<◌, ltb, length, Option, None, Some}
+use Rattle.std.specs.Option.{MatchOption}
+use denote.Ref.{Bor}
+use Rattle.sheet_rules.specs.Input.{digit, value, numeral, lines, all_numerals, numbers, numeral_lines}
 
--- the bytes from `start` on begin with a number, and go on from `next` on
-pub record Stepped (input : List ℕ) (start value next : ℕ) : Type 0 where
-  pub after : start < next
-  pub inside : next ≤ length input
-  pub numerals : all_numerals (lines (drop start input)) ≡ all_numerals (lines (drop next input))
-  pub values : numbers (drop start input) ≡ value ∷ numbers (drop next input)
-  pub passed : numeral_lines (drop start input) ≡ suc (numeral_lines (drop next input))
+-- a number that a byte has made
+abbrev pub small_number : ℕ → ℕ → Option ℕ
+small_number c n = cond (digit c && ltb n (2 ^ 32)) (Some n) None
 
-abbrev pub LineAt : List ℕ → ℕ → Line → Type 0
-LineAt input start (Number value next) = Stepped input start value next
-LineAt input start Broken = numeral_lines (drop start input) ≡ 0
+unfoldable pub number_of : List ℕ → Option ℕ
+number_of l = cond (numeral l) (Some (value l)) None
+
+-- the bytes begin with a number, and go on with others
+pub record Stepped (input : List ℕ) (number : ℕ) (next : List ℕ) : Type 0 where
+  pub shorter : length next < length input
+  pub numerals : all_numerals (lines input) ≡ all_numerals (lines next)
+  pub values : numbers input ≡ number ∷ numbers next
+  pub passed : numeral_lines input ≡ suc (numeral_lines next)
+
+abbrev pub FirstNumber : List ℕ → Option (ℕ × Bor (List ℕ)) → Type 0
+FirstNumber input r = MatchOption r (numeral_lines input ≡ 0) (λ p. Stepped input p.0 p.1.now)

@@ -1,29 +1,36 @@
--- `sheet_lines::line_of` meets its contract: the pattern's bytes before i are put, with the first k numbers. Assumes nothing.
-use Rattle.std.proofs.Common.{arith, ◌∙◌}
-use Rattle.sheet_lines.proofs.PatternLaws.{begun_number, begun_byte, begun_all}
+-- `sheet_lines::line_of` meets its contract: the pattern's bytes before i are put, with the numbers that had a mark there.
+-- Assumes nothing.
+use Rattle.std.proofs.Common.{arith, sym, ap, ◌∙◌, List, ◌∷◌, ℕ, length}
+use denote.Bor.{Bor}
+use Rattle.sheet_lines.proofs.PatternLaws.{begun_none, begun_number, begun_byte, begun_all}
 use Rattle.sheet_lines.proofs.line_of.Goals as goal
-use Rattle.sheet_lines.proofs.line_of.Goals.{then-pattern-i-eq-MARK+then-k-numbers, else-pattern-i-eq-MARK}
-use Rattle.sheet_lines.proofs.line_of.Goals.{else-pattern-i-eq-MARK-via-then-pattern-i-eq-MARK+else-k-numbers}
-use Rattle.sheet_lines.proofs.line_of.Goals.{else-pattern-i-eq-MARK-via-else-pattern-i-eq-MARK}
+use Rattle.sheet_lines.proofs.line_of.Goals.{in-Some, in_default, in_default-via-in-Some+else-byte-eq-MARK, in_default-via-in_default}
 
-pub loop-i-preserved : goal.loop-i-preserved
-loop-i-preserved c =
-    let l = c.loop-i in
-    elim c.if-pattern-i-eq-MARK.branch [
-      | then-pattern-i-eq-MARK+then-k-numbers w ↦
-          begun_number c.args.pattern.now c.args.numbers.now l.bytes l.length l.k l.i l.invariant (omega arith) w.if-pattern-i-eq-MARK.true w.if-k-numbers.true _ _ _
-          (w.bytes-is ∙ w.put_number-length.ensures.0) (w.length-is ∙ w.put_number-length.ensures.1) w.k-is
-          (omega (arith, w.length-is, w.put_number-length.ensures.2))
-      | else-pattern-i-eq-MARK w ↦
-          begun_byte c.args.pattern.now c.args.numbers.now l.bytes l.length l.k l.i l.invariant (omega arith)
-          (λ e. elim w.else-pattern-i-eq-MARK.branch [
-            | else-pattern-i-eq-MARK-via-then-pattern-i-eq-MARK+else-k-numbers v ↦ v.if-k-numbers.false
-            | else-pattern-i-eq-MARK-via-else-pattern-i-eq-MARK v ↦ absurd (v.if-pattern-i-eq-MARK.false e)
+pub loop-byte-init : goal.loop-byte-init
+loop-byte-init c = begun_none c.args.pattern.now c.args.numbers.now c.requires c.new-line.result c.new-line.ensures
+
+pub push_number-requires : goal.push_number-requires
+push_number-requires c = omega (arith, c.loop-byte.invariant.room, ap length c.in-Some.ensures.cases.0)
+
+pub push-requires : goal.push-requires
+push-requires c = omega (arith, c.loop-byte.invariant.room)
+
+pub loop-byte-preserved : goal.loop-byte-preserved
+loop-byte-preserved c =
+    let l = c.loop-byte in
+    elim c.match-split_first.branch [
+      | in-Some w ↦
+          begun_number c.args.pattern.now c.args.numbers.now l.line l.left.now l.byte-index l.invariant (omega arith) _ _ w.if-byte-eq-MARK.true w.in-Some.number.now
+          (w.in-Some.ensures.cases.0 ∙ ap (λ (b : Bor (List ℕ)). w.in-Some.number.now ∷ b.now) (sym w.left-is))
+          (w.line-is ∙ w.push_number.ensures.text) (omega (arith, ap length w.line-is, w.push_number.ensures.short))
+      | in_default w ↦
+          begun_byte c.args.pattern.now c.args.numbers.now l.line l.left.now l.byte-index l.invariant (omega arith) _ _
+          (λ e. elim w.in_default.branch [
+            | in_default-via-in-Some+else-byte-eq-MARK v ↦ absurd (v.if-byte-eq-MARK.false e)
+            | in_default-via-in_default v ↦ v.in_default.ensures.cases
           ])
-          _ _ _ w.bytes-is w.length-is w.k-is
+          (w.line-is ∙ w.push.ensures) (ap (λ (b : Bor (List ℕ)). b.now) w.left-is)
     ]
 
 pub returns : goal.returns
-returns c =
-    let l = c.loop-i in
-    begun_all c.args.pattern.now c.args.numbers.now l.bytes l.length l.k l.i l.invariant (omega arith)
+returns c = begun_all c.args.pattern.now c.args.numbers.now c.loop-byte.line c.loop-byte.left.now c.loop-byte.byte-index c.loop-byte.invariant (omega arith)

@@ -1,7 +1,10 @@
--- `words_reading::code_fault` meets its contract by its definition. Assumes nothing.
+-- `words_reading::code_fault` meets its contract: the closure computes what the sentence asks of a bucket.
+-- Assumes nothing.
+use Rattle.std.proofs.Common.{refl, rules, tests}
 use Rattle.words_rules.specs.Reading.{code_fault}
+use Rattle.laws.proofs.AnyLaws.{some_from_any}
 use Rattle.words_reading.proofs.code_fault.Goals as goal
 
 pub returns : goal.returns
 unfolding code_fault
-returns c = c.has_broken.ensures
+returns c = some_from_any _ _ c.any.ensures.ran refl c.bucket_count-buckets.ensures (λ x b q k. search (rules, tests))

@@ -8,4 +8,4 @@ pub returns : goal.returns
 returns c =
     let p = c.loop-b.invariant in
     let n = c.bucket_count-buckets.ensures in
-    sym (no_start_fault c.args.words.now (record { first = omega (arith, c.start_at-before.ensures); rise = λ i h. p.rise i (omega arith); below = λ i h. p.below i (omega arith) }))
+    sym (no_start_fault c.args.words.now (record { first = p.first; rise = λ i h. p.rise i (omega arith); below = λ i h. p.below i (omega arith) }))

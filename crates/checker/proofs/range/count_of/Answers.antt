@@ -1,13 +1,10 @@
--- `checker::range::count_of` meets its contract. At the loop the count is that of the first i entries.
+-- `checker::range::count_of` meets its contract: the library's sum is that of the definition.
 -- Assumes nothing.
-use Rattle.std.proofs.Common.{refl, arith}
-use Rattle.laws.proofs.SumsLaws.{one_added, added_le}
+use Rattle.std.proofs.Common.{rules, ◌≡◌, ◌∙◌, ℕ, sum_by}
+use Rattle.laws.proofs.SumsLaws.{sum_is_by}
 use Rattle.checker.proofs.range.count_of.Goals as goal
 
-pub overflow_add-count-in-loop-i : goal.overflow_add-count-in-loop-i
-overflow_add-count-in-loop-i c =
-    omega (arith, added_le _ _ _ _ _ (one_added _ _ _ _ _ _ _ (omega arith) refl refl c.loop-i.invariant), c.requires.1)
-
--- an entry is added
-pub loop-i-preserved : goal.loop-i-preserved
-loop-i-preserved c = one_added _ _ _ _ _ _ _ (omega arith) refl refl c.loop-i.invariant
+pub returns : goal.returns
+returns c =
+    let e : c.sum.result ≡ sum_by (λ (n : ℕ). n) c.args.part.now = search rules in
+    e ∙ sum_is_by c.args.part.now

@@ -7,4 +7,5 @@ use Rattle.estimator.proofs.pieces.bucket_total.Goals as goal
 
 pub total_number-requires : goal.total_number-requires
 total_number-requires c =
-    subst (λ (n : ℕ). valid_code n ≡ true) (sym c.total_at.ensures) (histogram.holds c.args.words.now c.requires.0 c.args.b c.requires.1).total_valid
+    let h = c.args.histogram in
+    subst (λ (n : ℕ). valid_code n ≡ true) (sym c.total_at.ensures) (histogram.holds h.words.now h.readable c.args.b c.requires).total_valid

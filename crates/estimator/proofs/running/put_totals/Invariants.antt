@@ -8,6 +8,6 @@ use Rattle.estimator.proofs.running.put_totals.Given as goal
 abbrev pub invariant-loop-b : goal.invariant-loop-b
 invariant-loop-b l =
     record {
-      summed : l.sum ≡ running_total l.words l.b;
-      written : Written (total_places l.words) (running_total l.words) l.initial.out l.b l.out;
+      summed : l.sum ≡ running_total l.histogram.words.now l.b;
+      written : Written (total_places l.histogram.words.now) (running_total l.histogram.words.now) l.initial.out l.b l.out;
     }

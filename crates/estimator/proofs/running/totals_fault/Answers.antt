@@ -12,23 +12,23 @@ use Rattle.estimator.proofs.running.totals_fault.Goals as goal
 
 pub loop-b-init : goal.loop-b-init
 loop-b-init c =
-    let ws = c.args.words.now in
+    let ws = c.args.histogram.words.now in
     record { summed = sym (running_none ws); right = none_yet (total_places ws) (wrong_at ws c.args.totals.now) }
 
 pub overflow_add-right : goal.overflow_add-right
 overflow_add-right c =
-    let ws = c.args.words.now in
+    let ws = c.args.histogram.words.now in
     let l = c.loop-b in
     omega (
       arith,
       l.invariant.summed,
       running_next ws l.b,
-      running_small ws c.requires.0 (suc l.b) (omega (arith, c.bucket_count-buckets.ensures)),
+      running_small ws c.args.histogram.readable (suc l.b) (omega (arith, c.bucket_count-buckets.ensures)),
     )
 
 pub loop-b-preserved : goal.loop-b-preserved
 loop-b-preserved c =
-    let ws = c.args.words.now in
+    let ws = c.args.histogram.words.now in
     let totals = c.args.totals.now in
     let l = c.loop-b in
     let n = c.bucket_count-buckets.ensures in
@@ -47,4 +47,4 @@ returns c =
     let last : c.bucket_count-buckets.result ≡ l.b = omega arith in
     let summed = l.invariant.summed in
     (λ i. not (eqb (word a.totals.now (last i)) (summed i)))
-    ∙ last_found (total_places a.words.now) (wrong_at a.words.now a.totals.now) l.b (omega (arith, c.bucket_count-buckets.ensures)) l.invariant.right
+    ∙ last_found (total_places a.histogram.words.now) (wrong_at a.histogram.words.now a.totals.now) l.b (omega (arith, c.bucket_count-buckets.ensures)) l.invariant.right

@@ -9,6 +9,6 @@ use Rattle.estimator.proofs.running.totals_fault.Given as goal
 abbrev pub invariant-loop-b : goal.invariant-loop-b
 invariant-loop-b l =
     record {
-      summed : l.right ≡ running_total l.words l.b;
-      right : NoneBefore (total_places l.words) (wrong_at l.words l.totals) l.b;
+      summed : l.right ≡ running_total l.histogram.words.now l.b;
+      right : NoneBefore (total_places l.histogram.words.now) (wrong_at l.histogram.words.now l.totals) l.b;
     }

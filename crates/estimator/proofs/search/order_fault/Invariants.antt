@@ -1,4 +1,4 @@
--- At the loop no range up to i starts before the one ahead of it ends.
+-- At the loop no range before i starts before the one ahead of it ends.
 -- Assumes nothing.
 use Rattle.std.proofs.Common.{◌-◌}
 use Rattle.laws.proofs.EachLaws.{NoneBefore}
@@ -7,7 +7,4 @@ use Rattle.estimate_rules.specs.Search.{starts_early}
 use Rattle.estimator.proofs.search.order_fault.Given as goal
 
 abbrev pub invariant-loop-i : goal.invariant-loop-i
-invariant-loop-i l = NoneBefore (range_count l.ranges - 1) (starts_early l.ranges) l.i
-
-abbrev pub decreases-loop-i : goal.decreases-loop-i
-decreases-loop-i l = l.count - l.i
+invariant-loop-i l = NoneBefore (range_count l.ranges.words.now - 1) (starts_early l.ranges.words.now) (l.i - 1)

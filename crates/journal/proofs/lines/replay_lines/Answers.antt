@@ -22,22 +22,22 @@ replay_line-requires c =
       l.invariant.summed,
     )
 
-pub returns-in_default : goal.returns-in_default
-returns-in_default c =
+pub returns-in_err-sum : goal.returns-in_err-sum
+returns-in_err-sum c =
     let h : SFits w32 (change_at c.args.changes.now c.loop-i.i) = assumption in
     let l = c.loop-i in
     let b = lines_broken c.args.freqs.now c.args.entries.now c.args.changes.now c.replay_line.new.freqs
     (replaying_broken c.args.freqs.now c.args.entries.now c.args.changes.now l.freqs l.sum l.i l.invariant (omega (arith, c.requires.0.paired))
-    (c.in_default.ensures.value ∙ ap (λ (z : ℤ). line_changed l.freqs (entry_at c.args.entries.now l.i) z) (to_z-of_z h))) in
-    record { value = b.0; lines_left = b.1 }
+    (c.in_err-sum.ensures.value ∙ ap (λ (z : ℤ). line_changed l.freqs (entry_at c.args.entries.now l.i) z) (to_z-of_z h))) in
+    record { value = c.from_residual.ensures ∙ b.0; lines_left = b.1 }
 
 pub loop-i-preserved : goal.loop-i-preserved
 loop-i-preserved c =
     let l = c.loop-i in
     let h : SFits w32 (change_at c.args.changes.now c.loop-i.i) = assumption in
     one_replayed c.args.freqs.now c.args.entries.now c.args.changes.now l.freqs l.sum l.i l.invariant (omega (arith, c.requires.0.paired)) _ _
-    (c.in-To.ensures.value ∙ ap (λ (z : ℤ). line_changed l.freqs (entry_at c.args.entries.now l.i) z) (to_z-of_z h))
-    (c.in-To.ensures.freqs_after ∙ ap (λ (z : ℤ). line_left l.freqs (entry_at c.args.entries.now l.i) z) (to_z-of_z h))
+    (c.in_ok-sum.ensures.value ∙ ap (λ (z : ℤ). line_changed l.freqs (entry_at c.args.entries.now l.i) z) (to_z-of_z h))
+    (c.in_ok-sum.ensures.freqs_after ∙ ap (λ (z : ℤ). line_left l.freqs (entry_at c.args.entries.now l.i) z) (to_z-of_z h))
 
 pub returns : goal.returns
 returns c =

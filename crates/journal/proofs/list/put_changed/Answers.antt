@@ -4,9 +4,9 @@ use Rattle.std.proofs.Common.{arith}
 use Rattle.journal.proofs.ListLaws.{one_put, putting}
 use Rattle.journal.proofs.list.put_changed.Goals as goal
 
-pub loop-i-init : goal.loop-i-init
-loop-i-init c = putting c.args.copy.now c.args.entries.now c.args.freqs.now 0 c.requires
+pub loop-entry-init : goal.loop-entry-init
+loop-entry-init c = putting c.args.copy.now c.args.entries.now c.args.freqs.now 0 c.requires
 
-pub loop-i-preserved : goal.loop-i-preserved
-loop-i-preserved c =
-    putting c.args.copy.now c.args.entries.now _ _ (one_put c.args.copy.now c.args.entries.now c.loop-i.freqs c.loop-i.i c.loop-i.invariant.same (omega arith))
+pub loop-entry-preserved : goal.loop-entry-preserved
+loop-entry-preserved c =
+    putting c.args.copy.now c.args.entries.now _ _ (one_put c.args.copy.now c.args.entries.now c.loop-entry.freqs c.loop-entry.entry-index c.loop-entry.invariant.same (omega arith))
