@@ -5,7 +5,6 @@ use super::lists::{ONE_BUCKET, TENS, TENS_WORDS, ZEROS_WORDS};
 use super::report::{fault, report, report_each, report_reply};
 use check_rules::Verdict;
 use refusals::Refusal;
-use std::io;
 use std::io::Stdout;
 
 // The old contents of a lent list.
@@ -30,7 +29,7 @@ fn build(
 }
 
 // Lists that are refused, or the number of words that come. The first word that is not written keeps its contents.
-fn case(out: &Stdout, cases: &[(&str, &[u32], Quality, Result<usize, Refusal>)]) -> io::Result<()> {
+fn case(out: &Stdout, cases: &[(&str, &[u32], Quality, Result<usize, Refusal>)]) {
     for &(what, freqs, quality, expected) in cases {
         let mut lent = [OLD; LENT];
         report_reply(
@@ -39,43 +38,40 @@ fn case(out: &Stdout, cases: &[(&str, &[u32], Quality, Result<usize, Refusal>)])
             "  words",
             expected,
             build(freqs, quality, &mut lent),
-        )?;
+        );
         if expected.is_ok() {
-            report(out, "  the word past them", OLD, lent[ONE_BUCKET])?;
+            report(out, "  the word past them", OLD, lent[ONE_BUCKET]);
         } else {
-            report(out, "  the first word", OLD, lent[0])?;
+            report(out, "  the first word", OLD, lent[0]);
         }
     }
-    Ok(())
 }
 
 // The words of lists of one bucket.
-fn list(out: &Stdout, cases: &[(&str, &[u32], Quality, &[u32])]) -> io::Result<()> {
+fn list(out: &Stdout, cases: &[(&str, &[u32], Quality, &[u32])]) {
     for &(what, freqs, quality, words) in cases {
         let mut lent = [OLD; LENT];
-        report(out, what, 0, fault(build(freqs, quality, &mut lent)))?;
-        report_each(out, "  word", words, &lent)?;
-        report(out, "  the word past them", OLD, lent[ONE_BUCKET])?;
+        report(out, what, 0, fault(build(freqs, quality, &mut lent)));
+        report_each(out, "  word", words, &lent);
+        report(out, "  the word past them", OLD, lent[ONE_BUCKET]);
     }
-    Ok(())
 }
 
 // The widths of one bucket.
-fn widths(out: &Stdout, cases: &[(&str, &[u32], Quality, usize, [u32; 8])]) -> io::Result<()> {
+fn widths(out: &Stdout, cases: &[(&str, &[u32], Quality, usize, [u32; 8])]) {
     for &(what, freqs, quality, bucket, expected) in cases {
         let mut lent = [OLD; LENT];
-        report(out, what, 0, fault(build(freqs, quality, &mut lent)))?;
+        report(out, what, 0, fault(build(freqs, quality, &mut lent)));
         report_each(
             out,
             "  width",
             &expected,
             &words::bucket_at(&lent, bucket).widths,
-        )?;
+        );
     }
-    Ok(())
 }
 
-fn examples(out: &Stdout) -> io::Result<()> {
+fn examples(out: &Stdout) {
     list(
         out,
         &[
@@ -93,11 +89,11 @@ fn examples(out: &Stdout) -> io::Result<()> {
 }
 
 // Words that no longer occur.
-fn zeros(out: &Stdout) -> io::Result<()> {
+fn zeros(out: &Stdout) {
     list(
         out,
         &[("three zeros", &[0; 3], Quality(1, 3, 2), &ZEROS_WORDS)],
-    )?;
+    );
     let freqs = [0, 0, 5, 0, 100];
     let quality = Quality(5, 3, 2);
     widths(
@@ -109,27 +105,27 @@ fn zeros(out: &Stdout) -> io::Result<()> {
             0,
             [4, 1, 0, 0, 0, 0, 0, 0],
         )],
-    )?;
+    );
     let mut lent = [OLD; ONE_BUCKET];
     report(
         out,
         "  built once more",
         0,
         fault(build(&freqs, quality, &mut lent)),
-    )?;
+    );
     let bucket = words::bucket_at(&lent, 0);
     report_each(out, "  the class of bucketlet", &[5, 14], &bucket.classes)
 }
 
-fn only_zeros(out: &Stdout) -> io::Result<()> {
+fn only_zeros(out: &Stdout) {
     let all = [0u32; 65536];
     let mut words = [OLD; ONLY_ZEROS];
     let got = build(&all, Quality(1, 5, 4), &mut words);
-    report_reply(out, "65,536 zeros", "  words", Ok(49), got)?;
+    report_reply(out, "65,536 zeros", "  words", Ok(49), got);
     check(out, "  checked", &all, &words, Ok(Verdict::Accepted))
 }
 
-fn stored_q(out: &Stdout) -> io::Result<()> {
+fn stored_q(out: &Stdout) {
     list(
         out,
         &[(
@@ -143,7 +139,7 @@ fn stored_q(out: &Stdout) -> io::Result<()> {
     )
 }
 
-fn limits_of_theta_and_q(out: &Stdout) -> io::Result<()> {
+fn limits_of_theta_and_q(out: &Stdout) {
     case(
         out,
         &[
@@ -177,7 +173,7 @@ fn limits_of_theta_and_q(out: &Stdout) -> io::Result<()> {
 }
 
 // A larger q is taken for a slip, once its parts are within their limits.
-fn slips_in_q(out: &Stdout) -> io::Result<()> {
+fn slips_in_q(out: &Stdout) {
     case(
         out,
         &[
@@ -210,7 +206,7 @@ fn slips_in_q(out: &Stdout) -> io::Result<()> {
     )
 }
 
-fn limits_of_the_list(out: &Stdout) -> io::Result<()> {
+fn limits_of_the_list(out: &Stdout) {
     case(
         out,
         &[
@@ -267,12 +263,7 @@ fn limits_of_the_list(out: &Stdout) -> io::Result<()> {
 }
 
 // Four tens, whose histogram has nine words, with a list lent for it.
-fn lent(
-    to: &Stdout,
-    what: &str,
-    out: &mut [u32],
-    expected: Result<usize, Refusal>,
-) -> io::Result<()> {
+fn lent(to: &Stdout, what: &str, out: &mut [u32], expected: Result<usize, Refusal>) {
     report_reply(
         to,
         what,
@@ -282,31 +273,31 @@ fn lent(
     )
 }
 
-fn lengths(out: &Stdout) -> io::Result<()> {
+fn lengths(out: &Stdout) {
     let mut eight = [OLD; 8];
     lent(
         out,
         "eight words lent for nine",
         &mut eight,
         Err(Refusal::Room),
-    )?;
-    report(out, "  the first word", OLD, eight[0])?;
-    report(out, "  the last word", OLD, eight[7])?;
-    lent(out, "no word lent", &mut [], Err(Refusal::Room))?;
+    );
+    report(out, "  the first word", OLD, eight[0]);
+    report(out, "  the last word", OLD, eight[7]);
+    lent(out, "no word lent", &mut [], Err(Refusal::Room));
     let slip = build(&TENS, Quality(1, 9, 1), &mut []);
-    report(out, "no word lent, and q 9/1", 24, fault(slip))?;
+    report(out, "no word lent, and q 9/1", 24, fault(slip));
     let mut nine = [OLD; 9];
-    lent(out, "nine words lent", &mut nine, Ok(9))?;
-    report(out, "  the first word", 4, nine[0])?;
-    report(out, "  the last word", 0xC0000000, nine[8])?;
+    lent(out, "nine words lent", &mut nine, Ok(9));
+    report(out, "  the first word", 4, nine[0]);
+    report(out, "  the last word", 0xC0000000, nine[8]);
     let mut twelve = [OLD; 12];
-    lent(out, "twelve words lent", &mut twelve, Ok(9))?;
-    report(out, "  word 8", 0xC0000000, twelve[8])?;
-    report(out, "  word 9", OLD, twelve[9])?;
+    lent(out, "twelve words lent", &mut twelve, Ok(9));
+    report(out, "  word 8", 0xC0000000, twelve[8]);
+    report(out, "  word 9", OLD, twelve[9]);
     report(out, "  word 11", OLD, twelve[11])
 }
 
-fn early_failures(out: &Stdout) -> io::Result<()> {
+fn early_failures(out: &Stdout) {
     widths(
         out,
         &[
@@ -328,7 +319,7 @@ fn early_failures(out: &Stdout) -> io::Result<()> {
     )
 }
 
-fn equal_entries(out: &Stdout) -> io::Result<()> {
+fn equal_entries(out: &Stdout) {
     let tens = [10u32; 7673];
     let quality = Quality(1, 2, 1);
     widths(
@@ -366,7 +357,7 @@ fn equal_entries(out: &Stdout) -> io::Result<()> {
     )
 }
 
-fn narrow_then_wide(out: &Stdout) -> io::Result<()> {
+fn narrow_then_wide(out: &Stdout) {
     let mut narrow = [5000u32; 4103];
     narrow[..7].copy_from_slice(&[1, 100, 1, 100, 1, 100, 1]);
     let quality = Quality(1, 5, 4);
@@ -392,31 +383,31 @@ fn narrow_then_wide(out: &Stdout) -> io::Result<()> {
 }
 
 // The word that holds the flag.
-fn flag(out: &Stdout, what: &str, freqs: &[u32], expected: u32) -> io::Result<()> {
+fn flag(out: &Stdout, what: &str, freqs: &[u32], expected: u32) {
     let mut words = [OLD; ONE_BUCKET];
     let got = build(freqs, Quality(1, 2, 1), &mut words);
-    report(out, what, 0, fault(got))?;
+    report(out, what, 0, fault(got));
     report(out, "  word 4", expected, words[4])
 }
 
 // The free bucketlet is the eighth up to a width of 511, and the first above.
-fn flags(out: &Stdout) -> io::Result<()> {
+fn flags(out: &Stdout) {
     let tens = [10u32; 512];
-    flag(out, "511 equal entries", &tens[..511], 0x400003FF)?;
+    flag(out, "511 equal entries", &tens[..511], 0x400003FF);
     flag(out, "512 equal entries", &tens, 0x40000000)
 }
 
-pub(crate) fn run(out: &Stdout) -> io::Result<()> {
-    examples(out)?;
-    zeros(out)?;
-    only_zeros(out)?;
-    stored_q(out)?;
-    limits_of_theta_and_q(out)?;
-    slips_in_q(out)?;
-    limits_of_the_list(out)?;
-    lengths(out)?;
-    early_failures(out)?;
-    equal_entries(out)?;
-    narrow_then_wide(out)?;
+pub(crate) fn run(out: &Stdout) {
+    examples(out);
+    zeros(out);
+    only_zeros(out);
+    stored_q(out);
+    limits_of_theta_and_q(out);
+    slips_in_q(out);
+    limits_of_the_list(out);
+    lengths(out);
+    early_failures(out);
+    equal_entries(out);
+    narrow_then_wide(out);
     flags(out)
 }

@@ -4,7 +4,6 @@ use super::lists::{TENS, TENS_WORDS, ZEROS_WORDS, with, zeros_under};
 use super::report::{fault, report};
 use check_rules::{Failing, Sort, Verdict};
 use refusals::Refusal;
-use std::io;
 use std::io::Stdout;
 
 fn fails(sort: Sort, start: u32, end: u32) -> Result<Verdict, Refusal> {
@@ -25,28 +24,24 @@ pub(crate) fn check(
     freqs: &[u32],
     words: &[u32],
     expected: Result<Verdict, Refusal>,
-) -> io::Result<()> {
+) {
     let got = checker::check(freqs, words);
-    report(out, what, fault(expected), fault(got))?;
+    report(out, what, fault(expected), fault(got));
     let [sort, start, end] = failing(expected);
     let [got_sort, got_start, got_end] = failing(got);
-    report(out, "  sort", sort, got_sort)?;
-    report(out, "  start", start, got_start)?;
+    report(out, "  sort", sort, got_sort);
+    report(out, "  start", start, got_start);
     report(out, "  end", end, got_end)
 }
 
 // The list and the words of each case, and what comes.
-fn check_all(
-    out: &Stdout,
-    cases: &[(&str, &[u32], &[u32], Result<Verdict, Refusal>)],
-) -> io::Result<()> {
+fn check_all(out: &Stdout, cases: &[(&str, &[u32], &[u32], Result<Verdict, Refusal>)]) {
     for &(what, freqs, words, expected) in cases {
-        check(out, what, freqs, words, expected)?;
+        check(out, what, freqs, words, expected);
     }
-    Ok(())
 }
 
-fn checks(out: &Stdout) -> io::Result<()> {
+fn checks(out: &Stdout) {
     check_all(
         out,
         &[
@@ -68,7 +63,7 @@ fn checks(out: &Stdout) -> io::Result<()> {
 }
 
 // Words that no longer occur: class 0 stands for them alone.
-fn zeros(out: &Stdout) -> io::Result<()> {
+fn zeros(out: &Stdout) {
     check_all(
         out,
         &[
@@ -102,7 +97,7 @@ fn zeros(out: &Stdout) -> io::Result<()> {
 }
 
 // The list is looked at first, then the words, and last whether their numbers of entries agree.
-fn refusals(out: &Stdout) -> io::Result<()> {
+fn refusals(out: &Stdout) {
     check_all(
         out,
         &[
@@ -147,8 +142,8 @@ fn refusals(out: &Stdout) -> io::Result<()> {
     )
 }
 
-pub(crate) fn run(out: &Stdout) -> io::Result<()> {
-    checks(out)?;
-    zeros(out)?;
+pub(crate) fn run(out: &Stdout) {
+    checks(out);
+    zeros(out);
     refusals(out)
 }

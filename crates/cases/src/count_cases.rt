@@ -1,9 +1,9 @@
 // Counts and their codes, and numbers that are neither.
 
-use super::report::verdict;
+use super::report::{say, verdict};
 use refusals::Refusal;
+use std::fmt;
 use std::io::Stdout;
-use std::{fmt, io};
 
 // A number, or the number of a refusal.
 #[derive(Clone, Copy, PartialEq)]
@@ -23,19 +23,21 @@ fn calls<F: Fn(u32) -> Result<u32, Refusal>>(
     what: &str,
     call: F,
     cases: &[(u32, Result<u32, Refusal>)],
-) -> io::Result<()>
+)
     requires { F.IsAlwaysCallable call }
 {
     for &(input, expected) in cases {
         let came = Answer(call(input));
         let expected = Answer(expected);
         let said = verdict(expected == came);
-        println!(out; "{what} {input}: expected {expected}, came {came}, {said}")?;
+        say(
+            out,
+            format_args!("{what} {input}: expected {expected}, came {came}, {said}"),
+        );
     }
-    Ok(())
 }
 
-fn classes(out: &Stdout) -> io::Result<()> {
+fn classes(out: &Stdout) {
     calls(
         out,
         "class of",
@@ -57,7 +59,7 @@ fn classes(out: &Stdout) -> io::Result<()> {
     )
 }
 
-fn numbers(out: &Stdout) -> io::Result<()> {
+fn numbers(out: &Stdout) {
     calls(
         out,
         "number of class",
@@ -80,7 +82,7 @@ fn numbers(out: &Stdout) -> io::Result<()> {
     )
 }
 
-fn codes(out: &Stdout) -> io::Result<()> {
+fn codes(out: &Stdout) {
     calls(
         out,
         "code of total",
@@ -98,7 +100,7 @@ fn codes(out: &Stdout) -> io::Result<()> {
     )
 }
 
-fn totals(out: &Stdout) -> io::Result<()> {
+fn totals(out: &Stdout) {
     calls(
         out,
         "number of code",
@@ -121,9 +123,9 @@ fn totals(out: &Stdout) -> io::Result<()> {
     )
 }
 
-pub(crate) fn run(out: &Stdout) -> io::Result<()> {
-    classes(out)?;
-    numbers(out)?;
-    codes(out)?;
+pub(crate) fn run(out: &Stdout) {
+    classes(out);
+    numbers(out);
+    codes(out);
     totals(out)
 }

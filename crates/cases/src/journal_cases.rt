@@ -2,7 +2,6 @@
 
 use super::report::{report, report_reply};
 use refusals::Refusal;
-use std::io;
 use std::io::Stdout;
 
 // Over a list, of which the first and the last frequency are then these.
@@ -14,21 +13,17 @@ fn over(
     changes: &[i32],
     expected: Result<u64, Refusal>,
     [first, last]: [u32; 2],
-) -> io::Result<()> {
+) {
     let got = journal::replay(freqs, entries, changes).map(|sum| u64::from(sum));
-    report_reply(out, what, "  sum", expected, got)?;
+    report_reply(out, what, "  sum", expected, got);
     if let (Some(got_first), Some(got_last)) = (freqs.first(), freqs.last()) {
-        report(out, "  the first frequency", first, *got_first)?;
-        report(out, "  the last", last, *got_last)?;
+        report(out, "  the first frequency", first, *got_first);
+        report(out, "  the last", last, *got_last);
     }
-    Ok(())
 }
 
 // What 5 and 7 become; a refusal leaves them.
-fn replay(
-    out: &Stdout,
-    cases: &[(&str, &[u32], &[i32], Result<[u32; 2], Refusal>)],
-) -> io::Result<()> {
+fn replay(out: &Stdout, cases: &[(&str, &[u32], &[i32], Result<[u32; 2], Refusal>)]) {
     for &(what, entries, changes, expected) in cases {
         let sum = expected.map(|[first, last]| u64::from(first) + u64::from(last));
         over(
@@ -39,12 +34,11 @@ fn replay(
             changes,
             sum,
             expected.unwrap_or([5, 7]),
-        )?;
+        );
     }
-    Ok(())
 }
 
-fn journals(out: &Stdout) -> io::Result<()> {
+fn journals(out: &Stdout) {
     replay(
         out,
         &[
@@ -62,7 +56,7 @@ fn journals(out: &Stdout) -> io::Result<()> {
 }
 
 // A bound is broken after some line.
-fn bounds(out: &Stdout) -> io::Result<()> {
+fn bounds(out: &Stdout) {
     replay(
         out,
         &[
@@ -107,7 +101,7 @@ fn bounds(out: &Stdout) -> io::Result<()> {
 }
 
 // Each refusal before the next.
-fn orders(out: &Stdout) -> io::Result<()> {
+fn orders(out: &Stdout) {
     replay(
         out,
         &[
@@ -130,7 +124,7 @@ fn orders(out: &Stdout) -> io::Result<()> {
                 Err(Refusal::JournalLength),
             ),
         ],
-    )?;
+    );
     let ends = [1, 1073741823];
     over(
         out,
@@ -140,7 +134,7 @@ fn orders(out: &Stdout) -> io::Result<()> {
         &[],
         Err(Refusal::Sum),
         ends,
-    )?;
+    );
     over(
         out,
         "no frequency",
@@ -153,7 +147,7 @@ fn orders(out: &Stdout) -> io::Result<()> {
 }
 
 // Lines of 1 more for entry 1.
-fn limits(out: &Stdout) -> io::Result<()> {
+fn limits(out: &Stdout) {
     let entries = [1u32; 65537];
     let changes = [1i32; 65537];
     replay(
@@ -178,7 +172,7 @@ fn limits(out: &Stdout) -> io::Result<()> {
                 Err(Refusal::JournalLength),
             ),
         ],
-    )?;
+    );
     over(
         out,
         "65,536 lines over 65,536 entries",
@@ -190,9 +184,9 @@ fn limits(out: &Stdout) -> io::Result<()> {
     )
 }
 
-pub(crate) fn run(out: &Stdout) -> io::Result<()> {
-    journals(out)?;
-    bounds(out)?;
-    orders(out)?;
+pub(crate) fn run(out: &Stdout) {
+    journals(out);
+    bounds(out);
+    orders(out);
     limits(out)
 }

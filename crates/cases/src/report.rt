@@ -2,8 +2,12 @@
 
 use refusals::Refusal;
 use std::fmt::Display;
-use std::io;
 use std::io::Stdout;
+
+// What standard output does not take is missing from what is printed, which is compared; the next line is still tried.
+pub(crate) fn say<T: Display + Drop>(out: &Stdout, line: T) {
+    let _said = println!(out; "{line}").is_ok();
+}
 
 pub(crate) fn verdict(right: bool) -> &'static str {
     if right { "ok" } else { "WRONG" }
@@ -14,9 +18,12 @@ pub(crate) fn report<W: Display + Drop, T: Copy + Display + PartialEq>(
     what: W,
     expected: T,
     got: T,
-) -> io::Result<()> {
+) {
     let said = verdict(expected == got);
-    println!(out; "{what}: expected {expected}, got {got}, {said}")
+    say(
+        out,
+        format_args!("{what}: expected {expected}, got {got}, {said}"),
+    );
 }
 
 // Each figure of the first list, with its place after what it is.
@@ -25,11 +32,10 @@ pub(crate) fn report_each<T: Copy + Display + PartialEq>(
     what: &str,
     expected: &[T],
     got: &[T],
-) -> io::Result<()> {
+) {
     for (k, (expected, got)) in expected.iter().zip(got).enumerate() {
-        report(out, format_args!("{what} {k}"), *expected, *got)?;
+        report(out, format_args!("{what} {k}"), *expected, *got);
     }
-    Ok(())
 }
 
 // The number that a call is refused with, or 0.
@@ -44,8 +50,8 @@ pub(crate) fn report_reply<T: Copy + Default + Display + PartialEq>(
     value: &str,
     expected: Result<T, Refusal>,
     got: Result<T, Refusal>,
-) -> io::Result<()> {
-    report(out, what, fault(expected), fault(got))?;
+) {
+    report(out, what, fault(expected), fault(got));
     report(
         out,
         value,

@@ -3,26 +3,23 @@
 use super::lists::{TENS_WORDS, TWO_WORDS, with};
 use super::report::report_reply;
 use refusals::Refusal;
-use std::io;
 use std::io::Stdout;
 
-fn search(out: &Stdout, cases: &[(&str, &[u32], &[u32], Result<u64, Refusal>)]) -> io::Result<()> {
+fn search(out: &Stdout, cases: &[(&str, &[u32], &[u32], Result<u64, Refusal>)]) {
     for &(what, words, ranges, expected) in cases {
         let got = estimator::estimate_search(words, ranges);
-        report_reply(out, what, "  estimate", expected, got)?;
+        report_reply(out, what, "  estimate", expected, got);
     }
-    Ok(())
 }
 
-fn ask(out: &Stdout, cases: &[(&str, &[u32], Result<u64, Refusal>)]) -> io::Result<()> {
+fn ask(out: &Stdout, cases: &[(&str, &[u32], Result<u64, Refusal>)]) {
     for &(what, ranges, expected) in cases {
-        search(out, &[(what, &TENS_WORDS, ranges, expected)])?;
+        search(out, &[(what, &TENS_WORDS, ranges, expected)]);
     }
-    Ok(())
 }
 
 // As the single call answers.
-fn one_range(out: &Stdout) -> io::Result<()> {
+fn one_range(out: &Stdout) {
     ask(
         out,
         &[
@@ -33,7 +30,7 @@ fn one_range(out: &Stdout) -> io::Result<()> {
     )
 }
 
-fn several(out: &Stdout) -> io::Result<()> {
+fn several(out: &Stdout) {
     ask(
         out,
         &[
@@ -53,7 +50,7 @@ fn several(out: &Stdout) -> io::Result<()> {
 }
 
 // 14 is said of each range, and first.
-fn outside(out: &Stdout) -> io::Result<()> {
+fn outside(out: &Stdout) {
     ask(
         out,
         &[
@@ -68,7 +65,7 @@ fn outside(out: &Stdout) -> io::Result<()> {
     )
 }
 
-fn numbers(out: &Stdout) -> io::Result<()> {
+fn numbers(out: &Stdout) {
     ask(
         out,
         &[
@@ -83,7 +80,7 @@ fn numbers(out: &Stdout) -> io::Result<()> {
     )
 }
 
-fn orders(out: &Stdout) -> io::Result<()> {
+fn orders(out: &Stdout) {
     ask(
         out,
         &[
@@ -113,7 +110,7 @@ fn broken_last() -> [u32; 34] {
     ranges
 }
 
-fn sixteen(out: &Stdout) -> io::Result<()> {
+fn sixteen(out: &Stdout) {
     ask(
         out,
         &[
@@ -134,7 +131,7 @@ fn sixteen(out: &Stdout) -> io::Result<()> {
 }
 
 // The words are looked at first.
-fn words_first(out: &Stdout) -> io::Result<()> {
+fn words_first(out: &Stdout) {
     search(
         out,
         &[
@@ -155,7 +152,7 @@ fn words_first(out: &Stdout) -> io::Result<()> {
     )
 }
 
-fn two_buckets(out: &Stdout) -> io::Result<()> {
+fn two_buckets(out: &Stdout) {
     search(
         out,
         &[(
@@ -167,13 +164,13 @@ fn two_buckets(out: &Stdout) -> io::Result<()> {
     )
 }
 
-pub(crate) fn run(out: &Stdout) -> io::Result<()> {
-    one_range(out)?;
-    several(out)?;
-    outside(out)?;
-    numbers(out)?;
-    orders(out)?;
-    sixteen(out)?;
-    words_first(out)?;
+pub(crate) fn run(out: &Stdout) {
+    one_range(out);
+    several(out);
+    outside(out);
+    numbers(out);
+    orders(out);
+    sixteen(out);
+    words_first(out);
     two_buckets(out)
 }

@@ -3,39 +3,36 @@
 use super::lists::{ONE_BUCKET, TENS_WORDS, TWO_WORDS, ZEROS_WORDS, bad_class, gaps, wide, with};
 use super::report::{fault, report};
 use refusals::Refusal;
-use std::io;
 use std::io::Stdout;
 
-fn read(out: &Stdout, cases: &[(&str, &[u32], Result<(), Refusal>)]) -> io::Result<()> {
+fn read(out: &Stdout, cases: &[(&str, &[u32], Result<(), Refusal>)]) {
     for &(what, words, expected) in cases {
         report(
             out,
             what,
             fault(expected),
             fault(words_reading::read_fault(words)),
-        )?;
+        );
     }
-    Ok(())
 }
 
 // The number of an entry's search, and the first word of what it hands back, or how many words that has.
-fn find(out: &Stdout, cases: &[(&str, &[u32], u32, Result<(), Refusal>, u32)]) -> io::Result<()> {
+fn find(out: &Stdout, cases: &[(&str, &[u32], u32, Result<(), Refusal>, u32)]) {
     for &(what, words, entry, expected, word) in cases {
         report(
             out,
             what,
             fault(expected),
             fault(finder::find_fault(words, entry)),
-        )?;
+        );
         match finder::find(words, entry) {
-            [first, _, _, _, _] => report(out, "  its first word", word, *first)?,
-            part => report(out, "  words handed back", 0, part.len())?,
+            [first, _, _, _, _] => report(out, "  its first word", word, *first),
+            part => report(out, "  words handed back", 0, part.len()),
         }
     }
-    Ok(())
 }
 
-fn heads(out: &Stdout) -> io::Result<()> {
+fn heads(out: &Stdout) {
     read(
         out,
         &[
@@ -65,7 +62,7 @@ fn heads(out: &Stdout) -> io::Result<()> {
     )
 }
 
-fn slips_in_q(out: &Stdout) -> io::Result<()> {
+fn slips_in_q(out: &Stdout) {
     read(
         out,
         &[
@@ -95,7 +92,7 @@ fn slips_in_q(out: &Stdout) -> io::Result<()> {
 }
 
 // 24 stands between 7 and 8.
-fn shortened_slips(out: &Stdout) -> io::Result<()> {
+fn shortened_slips(out: &Stdout) {
     let words = with(TENS_WORDS, 2, 9 * 1024 + 1);
     read(
         out,
@@ -103,7 +100,7 @@ fn shortened_slips(out: &Stdout) -> io::Result<()> {
             ("q 9/1 in three words", &words[..3], Err(Refusal::Head)),
             ("q 9/1 in eight words", &words[..8], Err(Refusal::LargeQ)),
         ],
-    )?;
+    );
     find(
         out,
         &[(
@@ -116,7 +113,7 @@ fn shortened_slips(out: &Stdout) -> io::Result<()> {
     )
 }
 
-fn lengths(out: &Stdout) -> io::Result<()> {
+fn lengths(out: &Stdout) {
     let mut longer = [0; ONE_BUCKET + 1];
     longer[..ONE_BUCKET].copy_from_slice(&TENS_WORDS);
     read(
@@ -130,7 +127,7 @@ fn lengths(out: &Stdout) -> io::Result<()> {
     )
 }
 
-fn order(out: &Stdout) -> io::Result<()> {
+fn order(out: &Stdout) {
     read(
         out,
         &[
@@ -163,7 +160,7 @@ fn order(out: &Stdout) -> io::Result<()> {
     )
 }
 
-fn spans(out: &Stdout) -> io::Result<()> {
+fn spans(out: &Stdout) {
     read(
         out,
         &[
@@ -192,7 +189,7 @@ fn spans(out: &Stdout) -> io::Result<()> {
     )
 }
 
-fn codes(out: &Stdout) -> io::Result<()> {
+fn codes(out: &Stdout) {
     read(
         out,
         &[
@@ -237,7 +234,7 @@ fn codes(out: &Stdout) -> io::Result<()> {
     )
 }
 
-fn finds(out: &Stdout) -> io::Result<()> {
+fn finds(out: &Stdout) {
     find(
         out,
         &[
@@ -264,21 +261,21 @@ fn finds(out: &Stdout) -> io::Result<()> {
 }
 
 // A bucket that was decoded and encoded again, and one past the end.
-fn again(out: &Stdout) -> io::Result<()> {
+fn again(out: &Stdout) {
     let words = words_packing::encode(words::bucket_at(&TWO_WORDS, 1));
     report(
         out,
         "word 0 of bucket 1 again",
         TWO_WORDS[ONE_BUCKET],
         words[0],
-    )?;
+    );
     for k in 1..words_rules::BUCKET_WORDS {
         report(
             out,
             format_args!("word {k}"),
             TWO_WORDS[ONE_BUCKET + k],
             words[k],
-        )?;
+        );
     }
     let past = words::bucket_at(&TWO_WORDS, usize::MAX);
     report(
@@ -289,14 +286,14 @@ fn again(out: &Stdout) -> io::Result<()> {
     )
 }
 
-pub(crate) fn run(out: &Stdout) -> io::Result<()> {
-    heads(out)?;
-    slips_in_q(out)?;
-    shortened_slips(out)?;
-    lengths(out)?;
-    order(out)?;
-    spans(out)?;
-    codes(out)?;
-    finds(out)?;
+pub(crate) fn run(out: &Stdout) {
+    heads(out);
+    slips_in_q(out);
+    shortened_slips(out);
+    lengths(out);
+    order(out);
+    spans(out);
+    codes(out);
+    finds(out);
     again(out)
 }

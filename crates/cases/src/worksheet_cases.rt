@@ -3,7 +3,6 @@
 use super::lists::{TENS_WORDS, TWO_WORDS, bad_class, with};
 use super::report::{report, report_each, report_reply};
 use refusals::Refusal;
-use std::io;
 use std::io::Stdout;
 
 // The old contents of a lent list.
@@ -12,28 +11,27 @@ const OLD: u64 = 0xABABABABABABABAB;
 // The running totals of TWO_WORDS.
 const TOTALS: [u64; 3] = [0, 40, 168];
 
-fn totals(out: &Stdout) -> io::Result<()> {
+fn totals(out: &Stdout) {
     let mut lent = [OLD; 4];
     let got = estimator::fill_totals(&TWO_WORDS, &mut lent);
-    report_reply(out, "running totals of 40 and 128", "  places", Ok(3), got)?;
-    report_each(out, "  place", &TOTALS, &lent)?;
+    report_reply(out, "running totals of 40 and 128", "  places", Ok(3), got);
+    report_each(out, "  place", &TOTALS, &lent);
     report(out, "  the place past them", OLD, lent[3])
 }
 
 // Two places are lent, and where that is refused the first keeps its contents.
-fn fill(out: &Stdout, cases: &[(&str, &[u32], Result<usize, Refusal>)]) -> io::Result<()> {
+fn fill(out: &Stdout, cases: &[(&str, &[u32], Result<usize, Refusal>)]) {
     for &(what, words, expected) in cases {
         let mut lent = [OLD; 2];
         let got = estimator::fill_totals(words, &mut lent);
-        report_reply(out, what, "  places", expected, got)?;
+        report_reply(out, what, "  places", expected, got);
         if expected.is_err() {
-            report(out, "  the first place", OLD, lent[0])?;
+            report(out, "  the first place", OLD, lent[0]);
         }
     }
-    Ok(())
 }
 
-fn fillings(out: &Stdout) -> io::Result<()> {
+fn fillings(out: &Stdout) {
     fill(
         out,
         &[
@@ -58,11 +56,11 @@ fn fillings(out: &Stdout) -> io::Result<()> {
     )
 }
 
-fn answers(out: &Stdout) -> io::Result<()> {
+fn answers(out: &Stdout) {
     let mut lent = [OLD; 5];
     let sheet = [2, 10, 0, 10, 3, 5, 4, 4];
     let got = estimator::answer_worksheet(&TWO_WORDS, &TOTALS, &sheet, &mut lent);
-    report_reply(out, "a worksheet of four ranges", "  answers", Ok(4), got)?;
+    report_reply(out, "a worksheet of four ranges", "  answers", Ok(4), got);
     let answers = [
         ("  2 to 10", 135),
         ("  0 to 10", 168),
@@ -71,28 +69,23 @@ fn answers(out: &Stdout) -> io::Result<()> {
         ("  the place past them", OLD),
     ];
     for ((what, expected), got) in answers.iter().zip(&lent) {
-        report(out, *what, *expected, *got)?;
+        report(out, *what, *expected, *got);
     }
-    Ok(())
 }
 
 // With room for two answers: the words, the running totals and the worksheet of each case, and what comes.
-fn ask(
-    out: &Stdout,
-    cases: &[(&str, &[u32], &[u64], &[u32], Result<usize, Refusal>)],
-) -> io::Result<()> {
+fn ask(out: &Stdout, cases: &[(&str, &[u32], &[u64], &[u32], Result<usize, Refusal>)]) {
     for &(what, words, totals, sheet, expected) in cases {
         let mut lent = [OLD; 2];
         let got = estimator::answer_worksheet(words, totals, sheet, &mut lent);
-        report_reply(out, what, "  answers", expected, got)?;
+        report_reply(out, what, "  answers", expected, got);
         if expected.is_err() {
-            report(out, "  the first place", OLD, lent[0])?;
+            report(out, "  the first place", OLD, lent[0]);
         }
     }
-    Ok(())
 }
 
-fn lengths(out: &Stdout) -> io::Result<()> {
+fn lengths(out: &Stdout) {
     ask(
         out,
         &[
@@ -137,7 +130,7 @@ fn lengths(out: &Stdout) -> io::Result<()> {
     )
 }
 
-fn wrong_totals(out: &Stdout) -> io::Result<()> {
+fn wrong_totals(out: &Stdout) {
     ask(
         out,
         &[
@@ -180,7 +173,7 @@ fn wrong_totals(out: &Stdout) -> io::Result<()> {
     )
 }
 
-fn ranges(out: &Stdout) -> io::Result<()> {
+fn ranges(out: &Stdout) {
     ask(
         out,
         &[
@@ -210,7 +203,7 @@ fn ranges(out: &Stdout) -> io::Result<()> {
 }
 
 // The words are looked at first.
-fn words_first(out: &Stdout) -> io::Result<()> {
+fn words_first(out: &Stdout) {
     ask(
         out,
         &[
@@ -233,12 +226,12 @@ fn words_first(out: &Stdout) -> io::Result<()> {
     )
 }
 
-pub(crate) fn run(out: &Stdout) -> io::Result<()> {
-    totals(out)?;
-    fillings(out)?;
-    answers(out)?;
-    lengths(out)?;
-    wrong_totals(out)?;
-    ranges(out)?;
+pub(crate) fn run(out: &Stdout) {
+    totals(out);
+    fillings(out);
+    answers(out);
+    lengths(out);
+    wrong_totals(out);
+    ranges(out);
     words_first(out)
 }

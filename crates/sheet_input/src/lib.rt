@@ -41,7 +41,7 @@ impl From<InputFault> for Refusal {
     ghost from_gives = { λ _ e. e ≡ Input };
 
     fn from(_fault: InputFault) -> Refusal {
-        Refusal::Input
+        Self::Input
     }
 }
 
